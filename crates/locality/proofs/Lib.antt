@@ -6,3 +6,4 @@ pub mod Cache
 pub mod Totals
 pub mod Curves
 pub mod Positions
+pub mod OfTables

@@ -31,7 +31,7 @@ use Rattle.locality.specs.declared.entry.Entry.{Entry}
 pub reverse-more : {X : Type 0} (k : X) (past : List X) → reverse (k ∷ past) ≡ reverse past ++ (k ∷ [])
 reverse-more k past = reverse-append (k ∷ []) past
 
-sumOver-reverse : {X : Type 0} (f : X → ℕ) (xs : List X) → sumOver f (reverse xs) ≡ sumOver f xs
+pub sumOver-reverse : {X : Type 0} (f : X → ℕ) (xs : List X) → sumOver f (reverse xs) ≡ sumOver f xs
 sumOver-reverse f [] = refl
 sumOver-reverse f (x ∷ xs) = ap (sumOver f) (reverse-more x xs) ∙ omega (arith, sumOver-append f (reverse xs) (x ∷ []), sumOver-reverse f xs)
 
@@ -49,7 +49,7 @@ key-old : {X : Type 0} (xs ys : List X) (t : ℕ) → t ≤ length xs → keyAt 
 key-old xs ys zero h = refl
 key-old xs ys (suc t) h = nth-old xs ys t (omega arith)
 
-positions-more : (n : ℕ) → positions (suc n) ≡ positions n ++ (suc n ∷ [])
+pub positions-more : (n : ℕ) → positions (suc n) ≡ positions n ++ (suc n ∷ [])
 positions-more n = from 1 n ∙ ap (λ t. positions n ++ (t ∷ [])) (omega arith)
   where
     from : (a n : ℕ) → counting a (suc n) ≡ counting a n ++ ((a + n) ∷ [])
@@ -77,7 +77,7 @@ map-same f g a zero h = refl
 map-same f g a (suc n) h =
     ap₂ _∷_ (h a (omega arith) (omega arith)) (map-same f g (a + 1) n (λ t l u. h t (omega arith) (omega arith)))
 
-greatest-le : (f : ℕ → Bool) (n : ℕ) → greatest f n ≤ n
+pub greatest-le : (f : ℕ → Bool) (n : ℕ) → greatest f n ≤ n
 greatest-le f zero = omega arith
 greatest-le f (suc n) = let r = greatest-le f n in grind arith
 

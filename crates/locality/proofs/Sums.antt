@@ -100,3 +100,14 @@ second w (g ∷ gs) =
     let r = second w gs in
     let p : isNumber (suc w) g + 2 * (g - suc w) ≡ (g - w) + (g - suc (suc w)) = grind arith in
     omega arith
+
+-- a table summed from the entry after w on
+pub sumAbove-none : (w : ℕ) (f : ℕ → ℕ) (n : ℕ) → n ≤ w → sumAbove w n f ≡ 0
+sumAbove-none w f zero h = refl
+sumAbove-none w f (suc n) h = let r = sumAbove-none w f n (omega arith) in grind arith
+
+pub sumAbove-more : (w : ℕ) (f : ℕ → ℕ) (i : ℕ) → w < i → sumAbove w (i - 1) f + f i ≡ sumAbove w i f
+sumAbove-more w f zero h = absurd (omega arith)
+sumAbove-more w f (suc n) h =
+    let z : suc n - 1 ≡ n = omega arith in
+    ap (λ m. sumAbove w m f + f (suc n)) z ∙ grind arith

@@ -1,19 +1,19 @@
 -- What the calls on a burst answer, said on its log, and the log that a list of calls gives.
 use mathlib.Core.Path.{_≡_}
 use mathlib.Core.List.{List, [], _∷_}
-use mathlib.Core.Bool.{Bool, cond, _||_}
+use mathlib.Core.Bool.{Bool, cond, _||_, _&&_}
 use Prim.Native.Nat.{ℕ, _+_, _-_, _*_, _≤_, _<_}
 use lib.Dec.{ltb, leb}
 use lib.ListN.{length}
 use Rattle.refusals.specs.declared.Refusal.{Refusal}
-use Rattle.refusals.specs.declared.Refusal.the-variants.{BurstFull, NoPlace, NothingToRetract, WindowTooLong, NoSuchEntry, SizeAboveKeys}
+use Rattle.refusals.specs.declared.Refusal.the-variants.{BurstFull, NoPlace, NothingToRetract, WindowTooLong, NoSuchPosition, NoSuchEntry, SizeAboveKeys}
 use Rattle.std.specs.declared.option.Option.{Option}
 use Rattle.std.specs.declared.option.Option.the-variants.{Some, None}
 use Rattle.std.specs.declared.result.Result.{Result}
 use Rattle.std.specs.declared.result.Result.the-variants.{Ok, Err}
 use Rattle.locality.specs.declared.call.Call.{Call}
 use Rattle.locality.specs.declared.call.Call.the-variants.{Record, Retract, Clear}
-use Rattle.locality.specs.Log.{held, distinct, interval, distance, windows, total, gapCount}
+use Rattle.locality.specs.Log.{held, distinct, interval, distance, intervalAt, distanceAt, windows, total, gapCount}
 
 -- the most accesses that stand at one time
 abbrev pub mostAccesses : ℕ
@@ -69,6 +69,17 @@ module _ {K : Type 0} (same : K → K → Bool) where
   -- footprint: a window no longer than the burst; then the total and the number of windows
   abbrev pub footprintAnswer : ℕ → List K → Result (ℕ × ℕ) Refusal
   footprintAnswer w log = cond (leb w (length log)) (Ok (total same w log, length (windows same w log))) (Err WindowTooLong)
+
+  -- t is a position of the log
+  abbrev pub isPosition : ℕ → List K → Bool
+  isPosition t log = leb 1 t && leb t (length log)
+
+  -- interval, and distance: a position from 1 to n; then what it has there, none at a first access
+  abbrev pub intervalAnswer : ℕ → List K → Result (Option ℕ) Refusal
+  intervalAnswer t log = cond (isPosition t log) (Ok (intervalAt same t log)) (Err NoSuchPosition)
+
+  abbrev pub distanceAnswer : ℕ → List K → Result (Option ℕ) Refusal
+  distanceAnswer t log = cond (isPosition t log) (Ok (distanceAt same t log)) (Err NoSuchPosition)
 
   -- gap: an entry from 0 to n; then its gap count
   abbrev pub gapAnswer : ℕ → List K → Result ℕ Refusal

@@ -4,5 +4,6 @@ pub mod Recency
 pub mod Cache
 pub mod Calls
 pub mod ByPosition
+pub mod Tables
 pub mod Statements
 pub mod Worked

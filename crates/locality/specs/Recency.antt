@@ -78,7 +78,7 @@ module _ {K : Type 0} (same : K → K → Bool) where
   found k [] = None
   found k (e ∷ es) = cond (same k (e .key)) (Some (1, e .time)) (deeper (found k es))
 
-  -- the entries with keys that are not the same as k
+  -- the entries without the first that has a same key; an orderly list has no other
   abbrev pub others : K → List (Entry K) → List (Entry K)
   others k es = without (λ e. same k (e .key)) es
 

@@ -1,15 +1,13 @@
 -- The theorems, each a statement about every log of a key kind, told by its sameness.
 use mathlib.Core.Path.{_≡_}
-use mathlib.Core.Bool.{Bool, cond, true, _&&_}
+use mathlib.Core.Bool.{Bool}
 use mathlib.Core.List.{List, _∷_, reverse}
 use mathlib.Core.Logic.{_↔_}
 use Prim.Native.Nat.{ℕ, suc, _+_, _-_, _*_, _≤_}
-use lib.Dec.{leb, ltb}
-use lib.ListN.{length, getD}
+use lib.ListN.{length}
 use Rattle.std.specs.Options.{mapped}
 use Rattle.std.specs.shelf.Lists.{All}
-use Rattle.std.specs.declared.option.Option.{Option}
-use Rattle.std.specs.declared.option.Option.the-variants.{Some, None}
+use Rattle.std.specs.declared.option.Option.the-variants.{Some}
 use Rattle.locality.specs.declared.entry.Entry.{Entry}
 use Rattle.locality.specs.Numbers.{countAbove, sumAbove}
 use Rattle.locality.specs.Log.{held, distinct, windows, total, former, interval, distance, depthCount, lasts, gapCount}
@@ -77,8 +75,3 @@ DepthFromTimes {K} same =
 -- every definition in use is the textbook's
 abbrev pub TextbookAgrees : {K : Type 0} → (K → K → Bool) → Type 0
 TextbookAgrees {K} same = (log : List K) → Textbook same log
-
--- a table that has the counts of a log at its entries 0 to n
-pub record TableOf {K : Type 0} (count : ℕ → List K → ℕ) (log : List K) (table : List ℕ) : Type 0 where
-  pub long : length table ≡ suc (length log)
-  pub counts : (i : ℕ) → i ≤ length log → getD table i 0 ≡ count i log

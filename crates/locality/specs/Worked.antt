@@ -35,8 +35,8 @@ pub data Row : Type 0 where
   lined : ℕ → ℕ → Bool → Row
 
 -- f at 0 to n
-abbrev upTo : (ℕ → ℕ) → ℕ → List ℕ
-upTo f n = map f (counting 0 (suc n))
+abbrev valuesTo : (ℕ → ℕ) → ℕ → List ℕ
+valuesTo f n = map f (counting 0 (suc n))
 
 -- an answer with its refusal told by the number
 abbrev numbered : {X : Type 0} → Result X Refusal → Result X ℕ
@@ -46,10 +46,10 @@ numbered (Err e) = Err (numberOf e)
 -- what a row states holds by the definitions, letters being the same where they are equal
 abbrev pub Holds : Row → Type 0
 Holds (measured accesses totals counts gaps missed) =
-    (upTo (λ w. total eqb w (reverse accesses)) (length accesses) ≡ totals)
-    × (upTo (λ w. length (windows eqb w (reverse accesses))) (length accesses) ≡ counts)
-    × (upTo (λ i. gapCount eqb i (reverse accesses)) (length accesses) ≡ gaps)
-    × (upTo (λ c. misses eqb c (reverse accesses)) (distinct eqb (reverse accesses)) ≡ missed)
+    (valuesTo (λ w. total eqb w (reverse accesses)) (length accesses) ≡ totals)
+    × (valuesTo (λ w. length (windows eqb w (reverse accesses))) (length accesses) ≡ counts)
+    × (valuesTo (λ i. gapCount eqb i (reverse accesses)) (length accesses) ≡ gaps)
+    × (valuesTo (λ c. misses eqb c (reverse accesses)) (distinct eqb (reverse accesses)) ≡ missed)
 Holds (recorded places calls k answer) = numbered (recordAnswer eqb places k (accessLog eqb places calls)) ≡ answer
 Holds (filled accesses c lengths others) =
     All (λ w. FillAnswer eqb c (reverse accesses) (Ok w)) lengths

@@ -1,0 +1,165 @@
+-- The definitions on a slice of keys, the oldest access first. Assumes nothing.
+use mathlib.Core.Path.{_≡_, refl, sym, ap, ap₂, _∙_}
+use mathlib.Core.Logic.{⊎-elim}
+use mathlib.Core.Bool.{Bool, true, false, cond, not, _||_, _&&_, false≢true}
+use mathlib.Core.List.{List, [], _∷_, _++_, map, reverse}
+use Prim.Native.Nat.{ℕ, zero, suc, _+_, _-_, _≤_, _<_}
+use native.Mathlib.Numerals.{add-one}
+use native.Mathlib.Omega.{arith}
+use lib.Dec.{eqb, leb, ltb}
+use lib.ListN.{length, getD, take, drop}
+use Rattle.std.proofs.shelf.Lists.{reverse-reverse, length-reverse, take-more}
+use Rattle.std.proofs.shelf.Maps.{nth-read}
+use Rattle.std.proofs.shelf.Tests.{cases-bool}
+use Rattle.std.specs.shelf.Lists.{leading, kept-by}
+use Rattle.std.specs.declared.option.Option.{Option}
+use Rattle.std.specs.declared.option.Option.the-variants.{Some, None}
+use Rattle.std.specs.declared.result.Result.{Result}
+use Rattle.std.specs.declared.result.Result.the-variants.{Ok, Err}
+use Rattle.keys.specs.Sameness.{Lawful}
+use Rattle.locality.proofs.Sums.{sumOver-append, sumOver-map, sumOver-each, sumOver-add}
+use Rattle.locality.proofs.Sameness.{distinct-push, distinct-reverse}
+use Rattle.locality.proofs.Positions.{positions-more, greatest-le, textbook}
+use Rattle.locality.specs.Numbers.{sumOver, isNumber, times}
+use Rattle.locality.specs.Log.{listed, held, distinct, windows, total, intervalAt, distanceAt, gapCount}
+use Rattle.locality.specs.Recency.{stored, without}
+use Rattle.locality.specs.Cache.{accessed, misses}
+use Rattle.locality.specs.ByPosition.{keyAt, positions, greatest, window, windowsByStart, alike, sameAt, formerOf, intervalOf, distanceOf, firstPositions, lastPositions, positionsWith, missesFrom}
+use Rattle.locality.specs.Calls.{isPosition, intervalAnswer, distanceAnswer}
+use Rattle.counting.specs.Shares.{shareOf}
+
+-- one position more
+pub sum-more : (f : ℕ → ℕ) (n : ℕ) → sumOver f (positions (n + 1)) ≡ sumOver f (positions n) + f (n + 1)
+sum-more f n =
+    let e : n + 1 ≡ suc n = add-one n in
+    ap (λ m. sumOver f (positions m)) e ∙ ap (sumOver f) (positions-more n) ∙ sumOver-append f (positions n) (suc n ∷ [])
+    ∙ ap (λ m. sumOver f (positions n) + (f m + 0)) (sym e) ∙ omega arith
+
+-- the greatest position that passes: here, or further back
+pub greatest-here : (f : ℕ → Bool) (p : ℕ) → 0 < p → f p ≡ true → greatest f p ≡ p
+greatest-here f zero h y = absurd (omega arith)
+greatest-here f (suc p) h y = rw y
+
+pub greatest-back : (f : ℕ → Bool) (p : ℕ) → 0 < p → f p ≡ false → greatest f (p - 1) ≡ greatest f p
+greatest-back f zero h y = absurd (omega arith)
+greatest-back f (suc p) h y = let e : suc p - 1 ≡ p = omega arith in rw (y, e)
+
+key-read : {K : Type 0} (xs : List K) (t : ℕ) (x : K) → 1 ≤ t → t ≤ length xs → x ≡ getD xs (t - 1) x → keyAt xs t ≡ Some x
+key-read xs zero x l h e = absurd (omega arith)
+key-read xs (suc t) x l h e = nth-read xs (length xs) t x refl (omega arith) (e ∙ ap (λ i. getD xs i x) (omega arith))
+
+-- the positions that a filter keeps, counted one by one
+times-kept : (p : ℕ → Bool) (i : ℕ) (ts : List ℕ) → times i (kept-by p ts) ≡ sumOver (λ t. cond (p t) (isNumber i t) 0) ts
+times-kept p i [] = refl
+times-kept p i (t ∷ ts) = let r = times-kept p i ts in grind arith
+
+map-kept : (f : ℕ → ℕ) (p : ℕ → Bool) (i : ℕ) (ts : List ℕ) → times i (map f (kept-by p ts)) ≡ sumOver (λ t. cond (p t) (isNumber i (f t)) 0) ts
+map-kept f p i [] = refl
+map-kept f p i (t ∷ ts) = let r = map-kept f p i ts in grind arith
+
+module _ {K : Type 0} (same : K → K → Bool) where
+  pub same-read : (xs : List K) (t p : ℕ) (x y : K) → 1 ≤ t → t ≤ length xs → x ≡ getD xs (t - 1) x → 1 ≤ p → p ≤ length xs → y ≡ getD xs (p - 1) y → sameAt same xs t p ≡ same x y
+  same-read xs t p x y l h e m k d = ap₂ (alike same) (key-read xs t x l h e) (key-read xs p y m k d)
+
+  -- the first same key stands within the list exactly when one is held
+  pub held-leading : (k : K) (xs : List K) → ltb (leading (λ x. not (same k x)) xs) (length xs) ≡ held same k xs
+  held-leading k [] = refl
+  held-leading k (x ∷ xs) = let r = held-leading k xs in grind arith
+
+  -- the first same key, and the list without it
+  stored-at : (k x : K) (ks : List K) (i : ℕ) → leading (λ y. not (same k y)) ks ≡ i → held same k ks ≡ true → x ≡ getD ks i x → x ≡ stored same k ks
+  stored-at k x [] i e y d = absurd (false≢true y)
+  stored-at k x (z ∷ ks) zero e y d =
+      ⊎-elim
+      (λ (t : same k z ≡ true). rw t d)
+      (λ (t : same k z ≡ false). let f : 1 + leading (λ y. not (same k y)) ks ≡ 0 = rw t at e in absurd (omega arith))
+      (cases-bool (same k z))
+  stored-at k x (z ∷ ks) (suc i) e y d =
+      ⊎-elim
+      (λ (t : same k z ≡ true). let f : 0 ≡ suc i = rw t at e in absurd (omega arith))
+      (λ (t : same k z ≡ false).
+      let f : 1 + leading (λ y. not (same k y)) ks ≡ suc i = rw t at e in
+      rw t (stored-at k x ks i (omega arith) (rw t at y) d))
+      (cases-bool (same k z))
+
+  without-at : (k : K) (ks : List K) (i : ℕ) → leading (λ y. not (same k y)) ks ≡ i → held same k ks ≡ true → take i ks ++ drop (suc i) ks ≡ without (same k) ks
+  without-at k [] i e y = absurd (false≢true y)
+  without-at k (z ∷ ks) zero e y =
+      ⊎-elim
+      (λ (t : same k z ≡ true). rw t)
+      (λ (t : same k z ≡ false). let f : 1 + leading (λ y. not (same k y)) ks ≡ 0 = rw t at e in absurd (omega arith))
+      (cases-bool (same k z))
+  without-at k (z ∷ ks) (suc i) e y =
+      ⊎-elim
+      (λ (t : same k z ≡ true). let f : 0 ≡ suc i = rw t at e in absurd (omega arith))
+      (λ (t : same k z ≡ false).
+      let f : 1 + leading (λ y. not (same k y)) ks ≡ suc i = rw t at e in
+      rw t (ap {B = List K} (λ ys. z ∷ ys) (without-at k ks i (omega arith) (rw t at y))))
+      (cases-bool (same k z))
+
+  -- what a cache holds after a hit on the key x at index i, and after a miss
+  pub after-hit : (c : ℕ) (k x : K) (ks : List K) (i : ℕ) → leading (λ y. not (same k y)) ks ≡ i → held same k ks ≡ true → x ≡ getD ks i x →
+      x ∷ (take i ks ++ drop (i + 1) ks) ≡ accessed same c k ks
+  after-hit c k x ks i e y d =
+      ap₂ _∷_ (stored-at k x ks i e y d) (ap (λ j. take i ks ++ drop j ks) (add-one i) ∙ without-at k ks i e y) ∙ rw y
+
+  pub after-miss : (c : ℕ) (k : K) (ks : List K) → held same k ks ≡ false → take c (k ∷ ks) ≡ accessed same c k ks
+  after-miss c k ks y = rw y
+
+module _ {K : Type 0} {same : K → K → Bool} (laws : Lawful same) where
+  -- one key more
+  pub distinct-more : (xs : List K) (i : ℕ) (x : K) → i < length xs → x ≡ getD xs i x → distinct same (take (i + 1) xs) ≡ cond (held same x (take i xs)) 0 1 + distinct same (take i xs)
+  distinct-more xs i x h e = ap (distinct same) (take-more xs i x h ∙ ap (λ y. take i xs ++ (y ∷ [])) (sym e)) ∙ distinct-push laws x (take i xs)
+
+  pub interval-slice : (xs : List K) (t : ℕ) → t ≤ length xs → intervalAt same t (reverse xs) ≡ intervalOf same xs t
+  interval-slice xs t h = textbook laws (reverse xs) .interval t (omega (arith, length-reverse xs)) ∙ ap (λ ys. intervalOf same ys t) (reverse-reverse xs)
+
+  pub distance-slice : (xs : List K) (t : ℕ) → t ≤ length xs → distanceAt same t (reverse xs) ≡ distanceOf same xs t
+  distance-slice xs t h = textbook laws (reverse xs) .distance t (omega (arith, length-reverse xs)) ∙ ap (λ ys. distanceOf same ys t) (reverse-reverse xs)
+
+  -- what a position answers, with its former position f
+  pub interval-at : (xs : List K) (t f : ℕ) → isPosition same t (reverse xs) ≡ true → t ≤ length xs → f ≡ formerOf same xs t →
+      intervalAnswer same t (reverse xs) ≡ Ok (cond (eqb f 0) None (Some (t - f)))
+  interval-at xs t f y h e = rw y (ap Ok (interval-slice xs t h ∙ ap (λ p. cond (eqb p 0) None (Some (t - p))) (sym e)))
+
+  pub distance-at : (xs : List K) (t f : ℕ) → isPosition same t (reverse xs) ≡ true → t ≤ length xs → f ≡ formerOf same xs t →
+      distanceAnswer same t (reverse xs) ≡ Ok (cond (eqb f 0) None (Some (distinct same (window (t - f) f xs))))
+  distance-at xs t f y h e = rw y (ap Ok (distance-slice xs t h ∙ ap (λ p. cond (eqb p 0) None (Some (distinct same (window (t - p) p xs)))) (sym e)))
+
+  pub total-slice : (w : ℕ) (xs : List K) → total same w (reverse xs) ≡ sumOver (λ s. distinct same (window w s xs)) (positions (suc (length xs) - w))
+  total-slice w xs =
+      textbook laws (reverse xs) .totals w ∙ ap (λ ys. sumOver (distinct same) (windowsByStart w ys)) (reverse-reverse xs)
+      ∙ sumOver-map (distinct same) (λ s. window w s xs) (positions (suc (length xs) - w))
+
+  pub misses-slice : (c : ℕ) (xs : List K) → misses same c (reverse xs) ≡ missesFrom same c [] xs
+  misses-slice c xs = textbook laws (reverse xs) .misses c ∙ ap (missesFrom same c []) (reverse-reverse xs)
+
+  -- the gap count, position by position
+  abbrev ends : List K → ℕ → ℕ → ℕ
+  ends xs i t = cond (eqb (greatest (sameAt same xs t) (length xs)) t) (isNumber i (suc (length xs) - t)) 0
+
+  abbrev starts : List K → ℕ → ℕ → ℕ
+  starts xs i t = cond (eqb (formerOf same xs t) 0) (isNumber i t) 0
+
+  abbrev middles : List K → ℕ → ℕ → ℕ
+  middles xs i t = times i (listed (intervalOf same xs t))
+
+  share-parts : (xs : List K) (i t : ℕ) → shareOf same xs i t ≡ middles xs i t + starts xs i t + ends xs i t
+  share-parts xs i t =
+      ⊎-elim
+      (λ (y : eqb (formerOf same xs t) 0 ≡ true). let z : formerOf same xs t ≡ 0 = grind arith in let m : t - 0 ≡ t = omega arith in rw (z, m) (omega arith))
+      (λ (y : eqb (formerOf same xs t) 0 ≡ false). rw y (omega arith))
+      (cases-bool (eqb (formerOf same xs t) 0))
+
+  pub gap-slice : (xs : List K) (i : ℕ) → sumOver (shareOf same xs i) (positions (length xs)) ≡ gapCount same i (reverse xs)
+  gap-slice xs i =
+      let ps = positions (length xs) in
+      let t = textbook laws (reverse xs) .gaps i in
+      let g : gapCount same i (reverse xs) ≡ positionsWith same (intervalOf same xs) i xs + times i (firstPositions same xs) + times i (map (λ l. suc (length xs) - l) (lastPositions same xs))
+      = t ∙ ap₂ (λ ys n. positionsWith same (intervalOf same ys) i ys + times i (firstPositions same ys) + times i (map (λ l. suc n - l) (lastPositions same ys))) (reverse-reverse xs) (length-reverse xs) in
+      let f = times-kept (λ t. eqb (formerOf same xs t) 0) i ps in
+      let l = map-kept (λ l. suc (length xs) - l) (λ t. eqb (greatest (sameAt same xs t) (length xs)) t) i ps in
+      let s = sumOver-each (shareOf same xs i) (λ t. middles xs i t + starts xs i t + ends xs i t) (share-parts xs i) ps in
+      let a = sumOver-add (λ t. middles xs i t + starts xs i t) (ends xs i) ps in
+      let b = sumOver-add (middles xs i) (starts xs i) ps in
+      omega (arith, g, f, l, s, a, b)

@@ -1,0 +1,23 @@
+use mathlib.Core.Path.{_≡_, sym, ap, ap₂, _∙_}
+use Prim.Native.Nat.{_+_}
+use native.Mathlib.Omega.{arith}
+use Rattle.keys.specs.Sameness.{Lawful}
+use Rattle.locality.specs.Numbers.{sumOver}
+use Rattle.locality.specs.ByPosition.{positions}
+use Rattle.counting.specs.Shares.{shareOf}
+use Rattle.counting.proofs.Slices.{sum-more, gap-slice}
+use Rattle.counting.proofs.gaps.count_gaps.Given as given
+use Rattle.counting.proofs.gaps.count_gaps.Needs as need
+
+laws : (g : given.Over) → Lawful (g .K·Key .same)
+laws g = record { reflexive = g .K·Key·met .reflexive; symmetric = g .K·Key·met .symmetric; transitive = g .K·Key·met .transitive }
+
+pub loop-i-again : need.loop-i-again
+loop-i-again g c =
+    let f = shareOf (g .K·Key .same) (c .args .keys .now) (c .args .size) in
+    (omega (arith, c .loop-i .inv .0), ap₂ _+_ (c .loop-i .inv .1) (c .share .ensures) ∙ sym (sum-more f (c .loop-i .i)))
+
+pub returns : need.returns
+returns g c =
+    let f = shareOf (g .K·Key .same) (c .args .keys .now) (c .args .size) in
+    c .loop-i .inv .1 ∙ ap (λ n. sumOver f (positions n)) (omega arith) ∙ gap-slice (laws g) (c .args .keys .now) (c .args .size)
