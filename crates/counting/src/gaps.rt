@@ -4,24 +4,12 @@ ghost use mathlib.Core.List.{reverse};
 ghost use Prim.Native.Nat.{_≤_};
 ghost use lib.ListN.{length};
 ghost use Rattle.locality.specs.Log.{gapCount};
-ghost use Rattle.locality.specs.Calls.{gapAnswer};
 ghost use Rattle.counting.specs.Shares.{shareOf};
 use crate::looks::greatest_same;
 use keys::Key;
-use refusals::Refusal;
 
-// The gap count of an entry from 0 to n.
-pub fn gap<K: Key>(keys: &[K], entry: usize) -> Result<u128, Refusal>
-    ensures { λ r. ⌜ r ≡ gapAnswer same «entry» (reverse (now (keys .entry))) ⌝ }
-{
-    if entry > keys.len() {
-        return Err(Refusal::NoSuchEntry);
-    }
-    Ok(count_gaps(keys, entry))
-}
-
-// The gaps of a size, at all positions.
-fn count_gaps<K: Key>(keys: &[K], size: usize) -> u128
+// The gap count of an entry: the gaps of that size, at all positions.
+pub fn gap_count<K: Key>(keys: &[K], size: usize) -> u128
     ensures { λ r. ⌜ r ≡ gapCount same size (reverse (now (keys .entry))) ⌝ }
 {
     let mut count = 0u128;

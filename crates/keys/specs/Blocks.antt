@@ -2,8 +2,8 @@
 use mathlib.Core.Bool.{Bool}
 use Prim.Native.Nat.{ℕ, _/_}
 use lib.Dec.{eqb}
-use Rattle.keys.specs.declared.Line.{Line}
-use Rattle.keys.specs.declared.Page.{Page}
+use Rattle.keys.specs.declared.line.Line.{Line}
+use Rattle.keys.specs.declared.page.Page.{Page}
 
 -- two byte addresses lie in one block of a size: divided by it, remainder dropped, they are equal
 abbrev pub oneBlock : ℕ → ℕ → ℕ → Bool

@@ -1,18 +1,20 @@
 -- The theorems, each a statement about every log of a key kind, told by its sameness.
 use mathlib.Core.Path.{_≡_}
-use mathlib.Core.Bool.{Bool}
+use mathlib.Core.Bool.{Bool, true}
 use mathlib.Core.List.{List, _∷_, reverse}
 use mathlib.Core.Logic.{_↔_}
 use Prim.Native.Nat.{ℕ, suc, _+_, _-_, _*_, _≤_}
 use lib.ListN.{length}
 use Rattle.std.specs.Options.{mapped}
 use Rattle.std.specs.shelf.Lists.{All}
+use Rattle.std.specs.declared.option.Option.{Option}
 use Rattle.std.specs.declared.option.Option.the-variants.{Some}
 use Rattle.locality.specs.declared.entry.Entry.{Entry}
 use Rattle.locality.specs.Numbers.{countAbove, sumAbove}
 use Rattle.locality.specs.Log.{held, distinct, windows, total, former, interval, distance, depthCount, lasts, gapCount}
 use Rattle.locality.specs.Recency.{keys, timesOf, stored, found, touched, recent, putBack, formerTime, Orderly}
 use Rattle.locality.specs.Cache.{misses}
+use Rattle.locality.specs.Tables.{totalOfTable, missesOfTable, TableOf, Tallies}
 use Rattle.locality.specs.ByPosition.{Textbook}
 
 -- what the gaps above w take from m × (n − w + 1): the sum of (i − w) × gap count i over the entries i above w
@@ -75,3 +77,24 @@ DepthFromTimes {K} same =
 -- every definition in use is the textbook's
 abbrev pub TextbookAgrees : {K : Type 0} → (K → K → Bool) → Type 0
 TextbookAgrees {K} same = (log : List K) → Textbook same log
+
+-- what the total worked out of a gap table is: the formula of every log; on this table its answer; and for every log
+-- that the table and the number of keys are those of, the total counted afresh
+pub record TotalFromTable {K : Type 0} (same : K → K → Bool) (table : List ℕ) (m w : ℕ) (answer : Option ℕ) : Type 0 where
+  pub formula : TotalsFromGaps same
+  pub answers : answer ≡ totalOfTable w m table
+  pub counted : (log : List K) → Tallies same (gapCount same) log table m → w ≤ length log → answer ≡ Some (total same w log)
+
+-- what the misses worked out of a table of depth counts are: the formula of every log; on this table its answer; and
+-- for every log that the table and the number of keys are those of, the misses of the LRU cache
+pub record MissesFromTable {K : Type 0} (same : K → K → Bool) (table : List ℕ) (m c : ℕ) (answer : Option ℕ) : Type 0 where
+  pub formula : MissesFromDepths same
+  pub answers : answer ≡ missesOfTable c m table
+  pub simulated : (log : List K) → Tallies same (depthCount same) log table m → answer ≡ Some (misses same c log)
+
+-- what the comparison of two gap tables tells: totals and gaps of every two logs; whether the tables are equal; and for
+-- every two logs that they are those of, whether the logs have one length and equal totals
+pub record TablesTellTotals {K L : Type 0} (same : K → K → Bool) (like : L → L → Bool) (one other : List ℕ) (answer : Bool) : Type 0 where
+  pub theorem : TotalsTellGaps same like
+  pub answers : (answer ≡ true) ↔ (one ≡ other)
+  pub told : (p : List K) (q : List L) → TableOf (gapCount same) p one → TableOf (gapCount like) q other → (answer ≡ true) ↔ ((length p ≡ length q) × SameTotals same p like q)

@@ -2,7 +2,7 @@
 // The definitions stand in specs/; each theorem is the contract of a function here.
 mod call;
 mod entry;
-pub mod tables;
+mod tables;
 pub mod theorems;
 
 pub use call::Call;

@@ -1,23 +1,15 @@
-// Curves from tables of counts: the theorems that a computation goes with, over every lawful key kind.
+// Curves from tables of counts.
 ghost use mathlib.Core.Path.{_≡_};
-ghost use mathlib.Core.Bool.{true};
-ghost use mathlib.Core.List.{List};
-ghost use mathlib.Core.Logic.{_↔_};
-ghost use Prim.Native.Nat.{ℕ, _+_, _*_, _≤_, _<_};
+ghost use Prim.Native.Nat.{_*_, _≤_, _<_};
 ghost use lib.ListN.{length, getD};
-ghost use Rattle.std.specs.declared.option.Option.the-variants.{Some};
 ghost use Rattle.locality.specs.Numbers.{sumAbove};
-ghost use Rattle.locality.specs.Log.{total, gapCount, depthCount};
-ghost use Rattle.locality.specs.Cache.{misses};
-ghost use Rattle.locality.specs.Tables.{isTable, lastEntry, beyond, totalOfTable, missesOfTable, TableOf, Tallies};
-ghost use Rattle.locality.specs.Statements.{TotalsFromGaps, MissesFromDepths, SameTotals, TotalsTellGaps};
+ghost use Rattle.locality.specs.Tables.{isTable, lastEntry, beyond};
+ghost use Rattle.locality.specs.Statements.{TotalFromTable, MissesFromTable, TablesTellTotals};
 use keys::Key;
 
-// The footprint total of a window length, from a gap table and the number of different keys, visiting no window.
-pub fn total_from_gaps<K: Key>(gaps: &[u32], keys: u32, window: u32) -> Option<u64>
-    ensures formula { λ _. ⌜ TotalsFromGaps same ⌝ }
-    ensures answer { λ r. ⌜ r ≡ totalOfTable window keys (now (gaps .entry)) ⌝ }
-    ensures counted { λ r. ⌜ ((log : List K) → Tallies same (gapCount same) log (now (gaps .entry)) keys → window ≤ length log → r ≡ Some (total same window log)) ⌝ }
+// The total of a window length, from a gap table and the number of different keys.
+pub(crate) fn table_total<K: Key>(gaps: &[u32], keys: u32, window: u32) -> Option<u64>
+    ensures { λ r. ⌜ TotalFromTable same (now (gaps .entry)) keys window r ⌝ }
 {
     let w = window as usize;
     if !is_table(gaps) {
@@ -30,11 +22,9 @@ pub fn total_from_gaps<K: Key>(gaps: &[u32], keys: u32, window: u32) -> Option<u
     (u64::from(keys) * windows).checked_sub(gaps_beyond(gaps, w))
 }
 
-// The misses of an LRU cache, from a table of depth counts and the number of different keys.
-pub fn misses_from_depths<K: Key>(depths: &[u32], keys: u32, size: u32) -> Option<u64>
-    ensures formula { λ _. ⌜ MissesFromDepths same ⌝ }
-    ensures answer { λ r. ⌜ r ≡ missesOfTable size keys (now (depths .entry)) ⌝ }
-    ensures simulated { λ r. ⌜ ((log : List K) → Tallies same (depthCount same) log (now (depths .entry)) keys → r ≡ Some (misses same size log)) ⌝ }
+// The misses of a cache size, from a table of depth counts and the number of different keys.
+pub(crate) fn table_misses<K: Key>(depths: &[u32], keys: u32, size: u32) -> Option<u64>
+    ensures { λ r. ⌜ MissesFromTable same (now (depths .entry)) keys size r ⌝ }
 {
     if !is_table(depths) {
         return None;
@@ -42,11 +32,9 @@ pub fn misses_from_depths<K: Key>(depths: &[u32], keys: u32, size: u32) -> Optio
     Some(u64::from(keys) + sum_beyond(depths, size as usize))
 }
 
-// Whether two bursts, of whatever kinds, have one length and equal totals at every window length, from their gap tables.
-pub fn gaps_tell_totals<K: Key, L: Key>(one: &[u32], other: &[u32]) -> bool
-    ensures theorem { λ _. ⌜ TotalsTellGaps (K·Key .same) (L·Key .same) ⌝ }
-    ensures answer { λ r. ⌜ (r ≡ true) ↔ (now (one .entry) ≡ now (other .entry)) ⌝ }
-    ensures told { λ r. ⌜ ((p : List K) → (q : List L) → TableOf (gapCount (K·Key .same)) p (now (one .entry)) → TableOf (gapCount (L·Key .same)) q (now (other .entry)) → (r ≡ true) ↔ ((length p ≡ length q) × SameTotals (K·Key .same) p (L·Key .same) q)) ⌝ }
+// Whether two gap tables are equal.
+pub(crate) fn same_tables<K: Key, L: Key>(one: &[u32], other: &[u32]) -> bool
+    ensures { λ r. ⌜ TablesTellTotals (K·Key .same) (L·Key .same) (now (one .entry)) (now (other .entry)) r ⌝ }
 {
     one == other
 }

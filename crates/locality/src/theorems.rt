@@ -1,8 +1,36 @@
-// The theorems that no computation goes with, each on a function of its own, over every lawful key kind.
+// The theorems, each the contract of a function named after what it says, over every lawful key kind.
+// Where a computation goes with a theorem, the function makes it; the others answer nothing.
 ghost use mathlib.Core.List.{List};
-ghost use Rattle.locality.specs.Statements.{NextFromRecency, RecencyList, PutBackUndoes, DepthFromTimes, TextbookAgrees};
+ghost use Rattle.locality.specs.Statements.{TotalFromTable, MissesFromTable, TablesTellTotals, NextFromRecency, RecencyList, PutBackUndoes, DepthFromTimes, TextbookAgrees};
 ghost use Rattle.locality.specs.Worked.{WorkedBursts};
+use crate::tables::same_tables;
+use crate::tables::table_misses;
+use crate::tables::table_total;
 use keys::Key;
+
+// The footprint total of a window length, from a gap table and the number of different keys, visiting no window.
+// None where the table has no entry or more than 4,097, where the window is longer than the burst, and where the table
+// is no burst's, so that the sum of its gaps is too large.
+pub fn total_from_gaps<K: Key>(gaps: &[u32], keys: u32, window: u32) -> Option<u64>
+    ensures { λ r. ⌜ TotalFromTable same (now (gaps .entry)) keys window r ⌝ }
+{
+    table_total::<K>(gaps, keys, window)
+}
+
+// The misses of an LRU cache, from a table of depth counts and the number of different keys.
+// None where the table has no entry or more than 4,097.
+pub fn misses_from_depths<K: Key>(depths: &[u32], keys: u32, size: u32) -> Option<u64>
+    ensures { λ r. ⌜ MissesFromTable same (now (depths .entry)) keys size r ⌝ }
+{
+    table_misses::<K>(depths, keys, size)
+}
+
+// Whether two bursts, of whatever kinds, have one length and equal totals at every window length, from their gap tables.
+pub fn gaps_tell_totals<K: Key, L: Key>(one: &[u32], other: &[u32]) -> bool
+    ensures { λ r. ⌜ TablesTellTotals (K·Key .same) (L·Key .same) (now (one .entry)) (now (other .entry)) r ⌝ }
+{
+    same_tables::<K, L>(one, other)
+}
 
 // Interval and distance of the next access can be read off the recency list.
 pub fn next_from_recency<K: Key>() -> u8

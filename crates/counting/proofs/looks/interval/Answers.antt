@@ -7,21 +7,16 @@ use lib.Dec.{eqb}
 use lib.ListN.{length, take, drop}
 use Rattle.std.specs.declared.option.Option.the-variants.{Some, None}
 use Rattle.std.specs.declared.result.Result.the-variants.{Ok, Err}
-use Rattle.keys.specs.Sameness.{Lawful}
 use Rattle.locality.specs.Log.{distinct}
 use Rattle.locality.specs.ByPosition.{window}
 use Rattle.counting.proofs.Slices.{interval-at}
-use Rattle.counting.proofs.looks.interval.Given as given
 use Rattle.counting.proofs.looks.interval.Needs as need
-
-laws : (g : given.Over) → Lawful (g .K·Key .same)
-laws g = record { reflexive = g .K·Key·met .reflexive; symmetric = g .K·Key·met .symmetric; transitive = g .K·Key·met .transitive }
 
 pub returns-then-former-eq0 : need.returns-then-former-eq0
 returns-then-former-eq0 g c =
     let p = c .if-not-is-position .ensures tt in
     let z = c .if-former-eq0 .taken in
-    let a = interval-at (laws g) (c .args .keys .now) (c .args .position) (c .former-position-former .result) (sym (p .test)) (p .within refl .1) (c .former-position-former .ensures .value) in
+    let a = interval-at (g .K·Key·met .lawful) (c .args .keys .now) (c .args .position) (c .former-position-former .result) (sym (p .test)) (p .within refl .1) (c .former-position-former .ensures .value) in
     sym (a ∙ rw z)
 
 pub returns : need.returns
@@ -29,5 +24,5 @@ returns g c =
     let p = c .if-not-is-position .ensures tt in
     let f = c .former-position-former .result in
     let z : eqb f 0 ≡ false = grind (arith, c .if-former-eq0 .left) in
-    let a = interval-at (laws g) (c .args .keys .now) (c .args .position) f (sym (p .test)) (p .within refl .1) (c .former-position-former .ensures .value) in
+    let a = interval-at (g .K·Key·met .lawful) (c .args .keys .now) (c .args .position) f (sym (p .test)) (p .within refl .1) (c .former-position-former .ensures .value) in
     sym (a ∙ rw z)

@@ -6,17 +6,12 @@ use native.Mathlib.Omega.{arith}
 use lib.ListN.{length, drop}
 use Rattle.std.specs.Of.Vec.{vec-items}
 use Rattle.std.proofs.shelf.Lists.{at-drop-more, at-drop-all}
-use Rattle.keys.specs.Sameness.{Lawful}
 use Rattle.locality.specs.Log.{held}
 use Rattle.locality.specs.Cache.{accessed}
 use Rattle.locality.specs.ByPosition.{missesFrom}
 use Rattle.counting.proofs.Slices.{misses-slice}
-use Rattle.counting.proofs.simulation.lru_misses.Given as given
 use Rattle.counting.proofs.simulation.lru_misses.Needs as need
 use Rattle.counting.proofs.simulation.lru_misses.Needs.{then-not-branch, else-not-branch}
-
-laws : (g : given.Over) → Lawful (g .K·Key .same)
-laws g = record { reflexive = g .K·Key·met .reflexive; symmetric = g .K·Key·met .symmetric; transitive = g .K·Key·met .transitive }
 
 pub loop-key-again : need.loop-key-again
 loop-key-again g c =
@@ -48,4 +43,4 @@ returns g c =
     let xs = c .args .keys .now in
     let f = missesFrom same (c .args .size) (vec-items (c .loop-key .cache)) in
     let z = at-drop-all f xs (c .loop-key .key-index) (c .loop-key-test .left) in
-    omega (arith, c .loop-key .inv .1, z, misses-slice (laws g) (c .args .size) xs)
+    omega (arith, c .loop-key .inv .1, z, misses-slice (g .K·Key·met .lawful) (c .args .size) xs)

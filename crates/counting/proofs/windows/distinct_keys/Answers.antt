@@ -4,16 +4,11 @@ use Prim.Native.Nat.{ℕ, _+_, _-_}
 use native.Mathlib.Omega.{arith}
 use lib.ListN.{length, take}
 use Rattle.std.proofs.shelf.Lists.{take-all}
-use Rattle.keys.specs.Sameness.{Lawful}
 use Rattle.locality.specs.Log.{held, distinct}
 use Rattle.locality.proofs.Sameness.{distinct-reverse}
 use Rattle.counting.proofs.Slices.{distinct-more}
-use Rattle.counting.proofs.windows.distinct_keys.Given as given
 use Rattle.counting.proofs.windows.distinct_keys.Needs as need
 use Rattle.counting.proofs.windows.distinct_keys.Needs.{then-not-is-held, else-not-is-held}
-
-laws : (g : given.Over) → Lawful (g .K·Key .same)
-laws g = record { reflexive = g .K·Key·met .reflexive; symmetric = g .K·Key·met .symmetric; transitive = g .K·Key·met .transitive }
 
 pub loop-i-again : need.loop-i-again
 loop-i-again g c =
@@ -21,7 +16,7 @@ loop-i-again g c =
     let xs = c .args .keys .now in
     let i = c .loop-i .i in
     let x = c .index-keys-i .result in
-    let d = distinct-more (laws g) xs i x (c .loop-i-test .taken) (c .index-keys-i .is) in
+    let d = distinct-more (g .K·Key·met .lawful) xs i x (c .loop-i-test .taken) (c .index-keys-i .is) in
     let z : i - 0 ≡ i = omega arith in
     let h : c .is-held .result ≡ held same x (take i xs) = c .is-held .ensures ∙ ap (λ j. held same x (take j xs)) z in
     elim (c .if-not-is-held .came) [
@@ -40,4 +35,4 @@ returns g c =
     let same = g .K·Key .same in
     let xs = c .args .keys .now in
     let v : c .loop-i .count ≡ distinct same xs = c .loop-i .inv .1 ∙ ap (distinct same) (take-all (c .loop-i .i) xs (c .loop-i-test .left)) in
-    record { slice = v; log = v ∙ sym (distinct-reverse (laws g) xs) }
+    record { slice = v; log = v ∙ sym (distinct-reverse (g .K·Key·met .lawful) xs); bound = omega (arith, c .loop-i .inv .0) }

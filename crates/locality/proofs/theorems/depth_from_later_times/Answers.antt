@@ -2,4 +2,4 @@ use Rattle.locality.proofs.Recency.{depths-later}
 use Rattle.locality.proofs.theorems.depth_from_later_times.Needs as need
 
 pub returns : need.returns
-returns g c = depths-later (record { reflexive = g .K·Key·met .reflexive; symmetric = g .K·Key·met .symmetric; transitive = g .K·Key·met .transitive })
+returns g c = depths-later (g .K·Key·met .lawful)
