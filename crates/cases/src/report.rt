@@ -10,10 +10,10 @@ ghost use Rattle.std.specs.Text.{asciiLetter};
 ghost use Rattle.cases.specs.Letters.{asLetter};
 ghost use Rattle.cases.specs.Texts.{quoted, cellText, labelOf, rowText, rowsText, headText, burstText, strayText, longText, answerText};
 use crate::curve::Curve;
+use crate::letters::LetterKey;
 use crate::letters::echo;
 use crate::letters::keys_of;
 use crate::letters::leading_letters;
-use crate::letters::LetterKey;
 use crate::letters::without_return;
 use crate::values::end_index;
 use crate::values::first_index;
@@ -57,7 +57,10 @@ fn add_burst(heap: Global, out: &mut String, line: &[u8]) -> Result<(), AllocErr
 fn add_long(out: &mut String, bytes: usize) -> Result<(), AllocError>
     ensures { λ r. ⌜ made r (λ _. string-bytes (now (out .exit)) ≡ string-bytes (now (out .entry)) ++ longText bytes) ⌝ }
 {
-    match write!(out, "a line of {bytes} bytes is too long: a burst has at most 128 letters here\n") {
+    match write!(
+        out,
+        "a line of {bytes} bytes is too long: a burst has at most 128 letters here\n"
+    ) {
         Ok(()) => Ok(()),
         Err(_) => Err(AllocError),
     }
@@ -68,7 +71,10 @@ fn add_stray(out: &mut String, line: &[u8], position: usize) -> Result<(), Alloc
     ensures { λ r. ⌜ made r (λ _. string-bytes (now (out .exit)) ≡ string-bytes (now (out .entry)) ++ strayText (now (line .entry)) position) ⌝ }
 {
     add_quoted(out, line)?;
-    match write!(out, ": byte {position} is no letter; a line is a burst of letters, one for each access\n") {
+    match write!(
+        out,
+        ": byte {position} is no letter; a line is a burst of letters, one for each access\n"
+    ) {
         Ok(()) => Ok(()),
         Err(_) => Err(AllocError),
     }
@@ -111,7 +117,12 @@ fn add_rows<K: Key>(heap: Global, out: &mut String, keys: &[K]) -> Result<(), Al
 }
 
 // The values of one curve.
-fn add_row<K: Key>(heap: Global, out: &mut String, keys: &[K], curve: Curve) -> Result<(), AllocError>
+fn add_row<K: Key>(
+    heap: Global,
+    out: &mut String,
+    keys: &[K],
+    curve: Curve,
+) -> Result<(), AllocError>
     requires { ⌜ length (now keys) ≤ 128 ⌝ }
     ensures { λ r. ⌜ made r (λ _. string-bytes (now (out .exit)) ≡ string-bytes (now (out .entry)) ++ rowText same curve (reverse (now (keys .entry)))) ⌝ }
 {

@@ -9,8 +9,7 @@ use counting::gaps::gap_count;
 use counting::looks::distance;
 use counting::looks::interval;
 use counting::simulation::lru_misses;
-use counting::windows::footprint_total;
-use counting::windows::window_count;
+use counting::windows::footprint;
 use keys::Key;
 use refusals::Refusal;
 use std::alloc::AllocError;
@@ -26,8 +25,8 @@ pub(crate) fn value<K: Key>(
     ensures { λ r. ⌜ made r (λ o. o ≡ valueOf same curve i (reverse (now (keys .entry)))) ⌝ }
 {
     match curve {
-        Curve::Totals => Ok(Some(footprint_total(keys, i))),
-        Curve::Windows => Ok(Some(window_count(keys, i))),
+        Curve::Totals => Ok(Some(footprint(keys, i).0)),
+        Curve::Windows => Ok(Some(footprint(keys, i).1)),
         Curve::Gaps => Ok(Some(gap_count(keys, i))),
         Curve::Misses => Ok(Some(lru_misses(heap, keys, i)? as u128)),
         Curve::Intervals => Ok(found_in(interval(keys, i))),

@@ -14,8 +14,6 @@ use Rattle.std.proofs.shelf.Tests.{cases-bool}
 use Rattle.std.specs.shelf.Lists.{leading, kept-by}
 use Rattle.std.specs.declared.option.Option.{Option}
 use Rattle.std.specs.declared.option.Option.the-variants.{Some, None}
-use Rattle.std.specs.declared.result.Result.{Result}
-use Rattle.std.specs.declared.result.Result.the-variants.{Ok, Err}
 use Rattle.keys.specs.Sameness.{Lawful}
 use Rattle.locality.proofs.Sums.{sumOver-append, sumOver-map, sumOver-each, sumOver-add}
 use Rattle.locality.proofs.Sameness.{distinct-push, distinct-reverse}
@@ -25,7 +23,6 @@ use Rattle.locality.specs.Log.{listed, held, distinct, windows, total, interval
 use Rattle.locality.specs.Recency.{stored, without}
 use Rattle.locality.specs.Cache.{accessed, misses}
 use Rattle.locality.specs.ByPosition.{keyAt, positions, greatest, window, windowsByStart, alike, sameAt, formerOf, intervalOf, distanceOf, firstPositions, lastPositions, positionsWith, missesFrom}
-use Rattle.locality.specs.Calls.{isPosition, intervalAnswer, distanceAnswer}
 use Rattle.counting.specs.Shares.{shareOf}
 
 -- one position more
@@ -111,20 +108,20 @@ module _ {K : Type 0} {same : K → K → Bool} (laws : Lawful same) where
   pub distinct-more : (xs : List K) (i : ℕ) (x : K) → i < length xs → x ≡ getD xs i x → distinct same (take (i + 1) xs) ≡ cond (held same x (take i xs)) 0 1 + distinct same (take i xs)
   distinct-more xs i x h e = ap (distinct same) (take-more xs i x h ∙ ap (λ y. take i xs ++ (y ∷ [])) (sym e)) ∙ distinct-push laws x (take i xs)
 
-  pub interval-slice : (xs : List K) (t : ℕ) → t ≤ length xs → intervalAt same t (reverse xs) ≡ intervalOf same xs t
+  interval-slice : (xs : List K) (t : ℕ) → t ≤ length xs → intervalAt same t (reverse xs) ≡ intervalOf same xs t
   interval-slice xs t h = textbook laws (reverse xs) .interval t (omega (arith, length-reverse xs)) ∙ ap (λ ys. intervalOf same ys t) (reverse-reverse xs)
 
-  pub distance-slice : (xs : List K) (t : ℕ) → t ≤ length xs → distanceAt same t (reverse xs) ≡ distanceOf same xs t
+  distance-slice : (xs : List K) (t : ℕ) → t ≤ length xs → distanceAt same t (reverse xs) ≡ distanceOf same xs t
   distance-slice xs t h = textbook laws (reverse xs) .distance t (omega (arith, length-reverse xs)) ∙ ap (λ ys. distanceOf same ys t) (reverse-reverse xs)
 
-  -- what a position answers, with its former position f
-  pub interval-at : (xs : List K) (t f : ℕ) → isPosition same t (reverse xs) ≡ true → t ≤ length xs → f ≡ formerOf same xs t →
-      intervalAnswer same t (reverse xs) ≡ Ok (cond (eqb f 0) None (Some (t - f)))
-  interval-at xs t f y h e = rw y (ap Ok (interval-slice xs t h ∙ ap (λ p. cond (eqb p 0) None (Some (t - p))) (sym e)))
+  -- the same with the former position f at hand
+  pub interval-from : (xs : List K) (t f : ℕ) → t ≤ length xs → f ≡ formerOf same xs t →
+      intervalAt same t (reverse xs) ≡ cond (eqb f 0) None (Some (t - f))
+  interval-from xs t f h e = interval-slice xs t h ∙ ap (λ p. cond (eqb p 0) None (Some (t - p))) (sym e)
 
-  pub distance-at : (xs : List K) (t f : ℕ) → isPosition same t (reverse xs) ≡ true → t ≤ length xs → f ≡ formerOf same xs t →
-      distanceAnswer same t (reverse xs) ≡ Ok (cond (eqb f 0) None (Some (distinct same (window (t - f) f xs))))
-  distance-at xs t f y h e = rw y (ap Ok (distance-slice xs t h ∙ ap (λ p. cond (eqb p 0) None (Some (distinct same (window (t - p) p xs)))) (sym e)))
+  pub distance-from : (xs : List K) (t f : ℕ) → t ≤ length xs → f ≡ formerOf same xs t →
+      distanceAt same t (reverse xs) ≡ cond (eqb f 0) None (Some (distinct same (window (t - f) f xs)))
+  distance-from xs t f h e = distance-slice xs t h ∙ ap (λ p. cond (eqb p 0) None (Some (distinct same (window (t - p) p xs)))) (sym e)
 
   pub total-slice : (w : ℕ) (xs : List K) → total same w (reverse xs) ≡ sumOver (λ s. distinct same (window w s xs)) (positions (suc (length xs) - w))
   total-slice w xs =

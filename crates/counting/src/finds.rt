@@ -6,7 +6,7 @@ ghost use Rattle.locality.specs.Log.{held};
 use keys::Key;
 
 // The index of the first same key, or the slice's length.
-pub fn find<K: Key>(keys: &[K], key: &K) -> usize
+pub(crate) fn find<K: Key>(keys: &[K], key: &K) -> usize
     ensures { λ r. ⌜ r ≡ leading (λ x. not (same (now (key .entry)) x)) (now (keys .entry)) ⌝ }
 {
     for (i, other) in keys.iter().enumerate() {
@@ -18,7 +18,7 @@ pub fn find<K: Key>(keys: &[K], key: &K) -> usize
 }
 
 // Whether the slice has a same key.
-pub fn is_held<K: Key>(keys: &[K], key: &K) -> bool
+pub(crate) fn is_held<K: Key>(keys: &[K], key: &K) -> bool
     ensures { λ r. ⌜ r ≡ held same (now (key .entry)) (now (keys .entry)) ⌝ }
 {
     find(keys, key) < keys.len()

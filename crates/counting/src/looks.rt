@@ -4,6 +4,7 @@ ghost use mathlib.Core.Bool.{true};
 ghost use mathlib.Core.List.{reverse};
 ghost use Prim.Native.Nat.{_≤_, _<_};
 ghost use lib.ListN.{length};
+ghost use Rattle.locality.specs.Log.{intervalAt, distanceAt};
 ghost use Rattle.locality.specs.ByPosition.{sameAt, greatest, formerOf};
 ghost use Rattle.locality.specs.Calls.{isPosition, intervalAnswer, distanceAnswer};
 use crate::windows::distinct_keys;
@@ -17,11 +18,7 @@ pub fn interval<K: Key>(keys: &[K], position: usize) -> Result<Option<usize>, Re
     if !is_position(keys, position) {
         return Err(Refusal::NoSuchPosition);
     }
-    let former = former_position(keys, position);
-    if former == 0 {
-        return Ok(None);
-    }
-    Ok(Some(position - former))
+    Ok(interval_at(keys, position))
 }
 
 // The distance of a position, its own key counted: none at a first access.
@@ -31,11 +28,31 @@ pub fn distance<K: Key>(keys: &[K], position: usize) -> Result<Option<usize>, Re
     if !is_position(keys, position) {
         return Err(Refusal::NoSuchPosition);
     }
+    Ok(distance_at(keys, position))
+}
+
+// The position less the former one.
+fn interval_at<K: Key>(keys: &[K], position: usize) -> Option<usize>
+    requires { ⌜ 1 ≤ position ⌝ ∗ ⌜ position ≤ length (now keys) ⌝ }
+    ensures { λ r. ⌜ r ≡ intervalAt same position (reverse (now (keys .entry))) ⌝ }
+{
     let former = former_position(keys, position);
     if former == 0 {
-        return Ok(None);
+        return None;
     }
-    Ok(Some(distinct_keys(&keys[former - 1..position - 1])))
+    Some(position - former)
+}
+
+// The different keys from the former position on.
+fn distance_at<K: Key>(keys: &[K], position: usize) -> Option<usize>
+    requires { ⌜ 1 ≤ position ⌝ ∗ ⌜ position ≤ length (now keys) ⌝ }
+    ensures { λ r. ⌜ r ≡ distanceAt same position (reverse (now (keys .entry))) ⌝ }
+{
+    let former = former_position(keys, position);
+    if former == 0 {
+        return None;
+    }
+    Some(distinct_keys(&keys[former - 1..position - 1]))
 }
 
 // Whether an access has the position.

@@ -22,8 +22,16 @@ pub fn distinct_keys<K: Key>(keys: &[K]) -> usize
     count
 }
 
+// The footprint total of a window length, and the number of windows: 0 and 0 where it is longer than the burst.
+pub fn footprint<K: Key>(keys: &[K], window: usize) -> (u128, u128)
+    ensures total { λ r. ⌜ r .0 ≡ total same window (reverse (now (keys .entry))) ⌝ }
+    ensures windows { λ r. ⌜ r .1 ≡ length (windows same window (reverse (now (keys .entry)))) ⌝ }
+{
+    (footprint_total(keys, window), window_count(keys, window))
+}
+
 // The number of windows of a length.
-pub fn window_count<K: Key>(keys: &[K], window: usize) -> u128
+fn window_count<K: Key>(keys: &[K], window: usize) -> u128
     ensures { λ r. ⌜ r ≡ length (windows same window (reverse (now (keys .entry)))) ⌝ }
 {
     if window > keys.len() {
@@ -32,8 +40,8 @@ pub fn window_count<K: Key>(keys: &[K], window: usize) -> u128
     (keys.len() - window) as u128 + 1
 }
 
-// The footprint total of a length: the different keys of each window, counted afresh and added up.
-pub fn footprint_total<K: Key>(keys: &[K], window: usize) -> u128
+// The different keys of each window, counted afresh and added up.
+fn footprint_total<K: Key>(keys: &[K], window: usize) -> u128
     ensures { λ r. ⌜ r ≡ total same window (reverse (now (keys .entry))) ⌝ }
 {
     if window > keys.len() {

@@ -1,7 +1,7 @@
 // Line keys: a byte address, for its cache line of 64 bytes.
 ghost use Rattle.keys.specs.Blocks.{oneLine};
-use crate::block::one_block;
 use crate::block::Block;
+use crate::block::one_block;
 use crate::kind::Key;
 
 #[derive(Clone, Copy)]

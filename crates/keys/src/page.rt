@@ -1,7 +1,7 @@
 // Page keys: a byte address, for its page of 4,096 bytes.
 ghost use Rattle.keys.specs.Blocks.{onePage};
-use crate::block::one_block;
 use crate::block::Block;
+use crate::block::one_block;
 use crate::kind::Key;
 
 #[derive(Clone, Copy)]

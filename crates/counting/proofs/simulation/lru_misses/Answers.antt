@@ -27,7 +27,7 @@ loop-key-again g c =
     let step : missesFrom same size ks (drop i xs) ≡ cond (held same x ks) 0 1 + missesFrom same size (vec-items (c .access .last .cache)) rest
     = at-drop-more (missesFrom same size ks) xs i x (c .loop-key-test .taken) ∙ ap (λ z. missesFrom same size ks (z ∷ rest)) (sym (c .key-item .is)) ∙ ap (λ zs. cond (held same x ks) 0 1 + missesFrom same size zs rest) (sym next) in
     elim (c .if-not-branch .came) [
-      then-not-branch w ↦
+      | then-not-branch w ↦
           let y : held same x ks ≡ false = sym hit ∙ w .if-not-branch .taken in
           let e : missesFrom same size ks (drop i xs) ≡ 1 + missesFrom same size (vec-items (c .access .last .cache)) rest = rw y at step in
           (omega (arith, c .loop-key .inv .0, w .missed-is), omega (arith, c .loop-key .inv .1, w .missed-is, e))

@@ -20,7 +20,7 @@ loop-i-again g c =
     let z : i - 0 ≡ i = omega arith in
     let h : c .is-held .result ≡ held same x (take i xs) = c .is-held .ensures ∙ ap (λ j. held same x (take j xs)) z in
     elim (c .if-not-is-held .came) [
-      then-not-is-held w ↦
+      | then-not-is-held w ↦
           let y : held same x (take i xs) ≡ false = sym h ∙ w .if-not-is-held .taken in
           let e : distinct same (take (i + 1) xs) ≡ 1 + distinct same (take i xs) = rw y at d in
           (omega (arith, c .loop-i .inv .0, w .count-is), omega (arith, c .loop-i .inv .1, w .count-is, e))

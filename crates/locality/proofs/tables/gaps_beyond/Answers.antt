@@ -34,7 +34,7 @@ loop-i-again c =
     let next : i ≡ i + 1 - 1 = omega arith in (
       omega (arith, c .loop-i .inv .0, small),
       ap (λ s. s + (i - w) * k) (c .loop-i .inv .1)
-      ∙ ap (λ x. sumAbove w (i - 1) f + (i - w) * x) (c .from .ensures)
-      ∙ sumAbove-more w f i above
-      ∙ ap (λ n. sumAbove w n f) next,
+          ∙ ap (λ x. sumAbove w (i - 1) f + (i - w) * x) (c .from .ensures)
+          ∙ sumAbove-more w f i above
+          ∙ ap (λ n. sumAbove w n f) next,
     )

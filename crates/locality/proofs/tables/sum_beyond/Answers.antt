@@ -25,9 +25,9 @@ loop-d-again c =
       omega (arith, c .loop-d .inv .0, k-le),
       omega arith,
       ap (λ s. s + k) (c .loop-d .inv .2)
-      ∙ ap (λ x. sumAbove w (d - 1) f + x) (c .from-sum .ensures)
-      ∙ sumAbove-more w f d above
-      ∙ ap (λ n. sumAbove w n f) next,
+          ∙ ap (λ x. sumAbove w (d - 1) f + x) (c .from-sum .ensures)
+          ∙ sumAbove-more w f d above
+          ∙ ap (λ n. sumAbove w n f) next,
     )
 
 pub returns : need.returns

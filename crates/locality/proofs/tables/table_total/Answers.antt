@@ -25,14 +25,14 @@ returns-then-w-gaps g c =
 pub returns : need.returns
 returns g c =
     let a : c .checked-sub .result ≡ totalOfTable (c .args .window) (c .args .keys) (c .args .gaps .now) = (
-      let y : isTable (c .args .gaps .now) ≡ true = sym (c .if-not-is-table .ensures tt) in
-      let l : leb (c .args .window) (lastEntry (c .args .gaps .now)) ≡ true = grind arith in
-      let n : length (c .args .gaps .now) - c .args .window ≡ lastEntry (c .args .gaps .now) - c .args .window + 1 = omega arith in
-      let k = c .from .ensures in
-      let s = c .gaps-beyond .ensures in
-      rw (y, l)
-      (checked-difference (c .checked-sub .result) _ _ (c .checked-sub .ensures)
-      ∙ ap (λ m. difference (m * (length (c .args .gaps .now) - c .args .window)) (c .gaps-beyond .result)) k
-      ∙ ap (λ m. difference (c .args .keys * m) (c .gaps-beyond .result)) n
-      ∙ ap (difference (c .args .keys * (lastEntry (c .args .gaps .now) - c .args .window + 1))) s)) in
+    let y : isTable (c .args .gaps .now) ≡ true = sym (c .if-not-is-table .ensures tt) in
+    let l : leb (c .args .window) (lastEntry (c .args .gaps .now)) ≡ true = grind arith in
+    let n : length (c .args .gaps .now) - c .args .window ≡ lastEntry (c .args .gaps .now) - c .args .window + 1 = omega arith in
+    let k = c .from .ensures in
+    let s = c .gaps-beyond .ensures in
+    rw (y, l)
+    (checked-difference (c .checked-sub .result) _ _ (c .checked-sub .ensures)
+    ∙ ap (λ m. difference (m * (length (c .args .gaps .now) - c .args .window)) (c .gaps-beyond .result)) k
+    ∙ ap (λ m. difference (c .args .keys * m) (c .gaps-beyond .result)) n
+    ∙ ap (difference (c .args .keys * (lastEntry (c .args .gaps .now) - c .args .window + 1))) s)) in
     record { formula = footprints (g .K·Key·met .lawful); answers = a; counted = λ log t l. a ∙ total-of (g .K·Key·met .lawful) _ _ log _ t l }
