@@ -37,3 +37,12 @@ first-le-end Gaps n m = omega arith
 first-le-end Misses n m = omega arith
 first-le-end Intervals n m = omega arith
 first-le-end Distances n m = omega arith
+
+-- it ends no later than the accesses
+pub end-le : (c : Curve) (n m : ℕ) → m ≤ n → endIndex c n m ≤ n + 1
+end-le Totals n m h = omega arith
+end-le Windows n m h = omega arith
+end-le Gaps n m h = omega arith
+end-le Misses n m h = omega arith
+end-le Intervals n m h = omega arith
+end-le Distances n m h = omega arith

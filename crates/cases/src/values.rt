@@ -2,7 +2,9 @@
 ghost use mathlib.Core.Path.{_≡_};
 ghost use mathlib.Core.List.{reverse};
 ghost use Prim.Native.Nat.{_≤_};
+ghost use lib.ListN.{length};
 ghost use Rattle.std.specs.Vec.{made};
+ghost use Rattle.locality.specs.Cache.{misses};
 ghost use Rattle.cases.specs.Values.{foundIn, valueOf, firstIndex, endIndex};
 use crate::curve::Curve;
 use counting::gaps::gap_count;
@@ -22,16 +24,26 @@ pub(crate) fn value<K: Key>(
     curve: Curve,
     i: usize,
 ) -> Result<Option<u128>, AllocError>
+    requires { ⌜ i ≤ length (now keys) ⌝ }
     ensures { λ r. ⌜ made r (λ o. o ≡ valueOf same curve i (reverse (now (keys .entry)))) ⌝ }
 {
     match curve {
         Curve::Totals => Ok(Some(footprint(keys, i).0)),
         Curve::Windows => Ok(Some(footprint(keys, i).1)),
         Curve::Gaps => Ok(Some(gap_count(keys, i))),
-        Curve::Misses => Ok(Some(lru_misses(heap, keys, i)? as u128)),
+        Curve::Misses => Ok(Some(misses_at(heap, keys, i)?)),
         Curve::Intervals => Ok(found_in(interval(keys, i))),
         Curve::Distances => Ok(found_in(distance(keys, i))),
     }
+}
+
+// The misses of a cache of a size, a copy of the keys being its memory.
+fn misses_at<K: Key>(heap: Global, keys: &[K], size: usize) -> Result<u128, AllocError>
+    requires { ⌜ size ≤ length (now keys) ⌝ }
+    ensures { λ r. ⌜ made r (λ m. m ≡ misses same size (reverse (now (keys .entry)))) ⌝ }
+{
+    let mut places = Vec::from_slice(heap, keys)?;
+    Ok(lru_misses(keys, &mut places[0..size]) as u128)
 }
 
 // What a position answers: none at a first access, and outside the burst.

@@ -8,7 +8,7 @@ use native.Mathlib.Numerals.{add-one}
 use native.Mathlib.Omega.{arith}
 use lib.Dec.{eqb, leb, ltb}
 use lib.ListN.{length, getD, take, drop}
-use Rattle.std.proofs.shelf.Lists.{reverse-reverse, length-reverse, take-more}
+use Rattle.std.proofs.shelf.Lists.{reverse-reverse, length-reverse, length-take, take-more}
 use Rattle.std.proofs.shelf.Maps.{nth-read}
 use Rattle.std.proofs.shelf.Tests.{cases-bool}
 use Rattle.std.specs.shelf.Lists.{leading, kept-by}
@@ -17,12 +17,12 @@ use Rattle.std.specs.declared.option.Option.the-variants.{Some, None}
 use Rattle.keys.specs.Sameness.{Lawful}
 use Rattle.locality.proofs.Sums.{sumOver-append, sumOver-map, sumOver-each, sumOver-add}
 use Rattle.locality.proofs.Sameness.{distinct-push, distinct-reverse}
-use Rattle.locality.proofs.Positions.{positions-more, greatest-le, textbook}
+use Rattle.locality.proofs.Positions.{positions-more, textbook, cache-more, misses-more}
 use Rattle.locality.specs.Numbers.{sumOver, isNumber, times}
 use Rattle.locality.specs.Log.{listed, held, distinct, windows, total, intervalAt, distanceAt, gapCount}
 use Rattle.locality.specs.Recency.{stored, without}
-use Rattle.locality.specs.Cache.{accessed, misses}
-use Rattle.locality.specs.ByPosition.{keyAt, positions, greatest, window, windowsByStart, alike, sameAt, formerOf, intervalOf, distanceOf, firstPositions, lastPositions, positionsWith, missesFrom}
+use Rattle.locality.specs.Cache.{accessed, cache, misses}
+use Rattle.locality.specs.ByPosition.{keyAt, positions, greatest, window, windowsByStart, alike, sameAt, formerOf, intervalOf, distanceOf, firstPositions, lastPositions, positionsWith, cacheFrom, missesFrom}
 use Rattle.counting.specs.Shares.{shareOf}
 
 -- one position more
@@ -103,6 +103,27 @@ module _ {K : Type 0} (same : K → K → Bool) where
   pub after-miss : (c : ℕ) (k : K) (ks : List K) → held same k ks ≡ false → take c (k ∷ ks) ≡ accessed same c k ks
   after-miss c k ks y = rw y
 
+  -- a cache never shrinks, and never passes its places
+  without-length : (k : K) (ks : List K) → held same k ks ≡ true → suc (length (without (same k) ks)) ≡ length ks
+  without-length k [] y = absurd (false≢true y)
+  without-length k (x ∷ ks) y =
+      let r : held same k ks ≡ true → suc (length (without (same k) ks)) ≡ length ks = without-length k ks in
+      grind arith
+
+  pub accessed-length : (c : ℕ) (k : K) (ks : List K) → length ks ≤ c → (length ks ≤ length (accessed same c k ks)) × (length (accessed same c k ks) ≤ c)
+  accessed-length c k ks h =
+      ⊎-elim
+      (λ (y : held same k ks ≡ true). let w = without-length k ks y in rw y (omega arith, omega arith))
+      (λ (y : held same k ks ≡ false). let t = length-take c (k ∷ ks) in rw y (omega arith, omega arith))
+      (cases-bool (held same k ks))
+
+  -- one access more
+  pub cache-step : (c : ℕ) (xs : List K) (i : ℕ) (x : K) → i < length xs → x ≡ getD xs i x → cacheFrom same c [] (take (i + 1) xs) ≡ accessed same c x (cacheFrom same c [] (take i xs))
+  cache-step c xs i x h e = ap (cacheFrom same c []) (take-more xs i x h ∙ ap (λ y. take i xs ++ (y ∷ [])) (sym e)) ∙ cache-more same c [] (take i xs) x
+
+  pub misses-step : (c : ℕ) (xs : List K) (i : ℕ) (x : K) → i < length xs → x ≡ getD xs i x → missesFrom same c [] (take (i + 1) xs) ≡ cond (held same x (cacheFrom same c [] (take i xs))) 0 1 + missesFrom same c [] (take i xs)
+  misses-step c xs i x h e = ap (missesFrom same c []) (take-more xs i x h ∙ ap (λ y. take i xs ++ (y ∷ [])) (sym e)) ∙ misses-more same c [] (take i xs) x
+
 module _ {K : Type 0} {same : K → K → Bool} (laws : Lawful same) where
   -- one key more
   pub distinct-more : (xs : List K) (i : ℕ) (x : K) → i < length xs → x ≡ getD xs i x → distinct same (take (i + 1) xs) ≡ cond (held same x (take i xs)) 0 1 + distinct same (take i xs)
@@ -130,6 +151,9 @@ module _ {K : Type 0} {same : K → K → Bool} (laws : Lawful same) where
 
   pub misses-slice : (c : ℕ) (xs : List K) → misses same c (reverse xs) ≡ missesFrom same c [] xs
   misses-slice c xs = textbook laws (reverse xs) .misses c ∙ ap (missesFrom same c []) (reverse-reverse xs)
+
+  pub cache-slice : (c : ℕ) (xs : List K) → cache same c (reverse xs) ≡ cacheFrom same c [] xs
+  cache-slice c xs = textbook laws (reverse xs) .caches c ∙ ap (cacheFrom same c []) (reverse-reverse xs)
 
   -- the gap count, position by position
   abbrev ends : List K → ℕ → ℕ → ℕ

@@ -191,11 +191,11 @@ module _ {K : Type 0} (same : K → K → Bool) where
       ∙ ap (λ ys. cond (eqb f 0) None (Some (distinct same ys))) w
 
   -- a cache, and a recency list, one access on
-  cache-more : (c : ℕ) (ks xs : List K) (k : K) → cacheFrom same c ks (xs ++ (k ∷ [])) ≡ accessed same c k (cacheFrom same c ks xs)
+  pub cache-more : (c : ℕ) (ks xs : List K) (k : K) → cacheFrom same c ks (xs ++ (k ∷ [])) ≡ accessed same c k (cacheFrom same c ks xs)
   cache-more c ks [] k = refl
   cache-more c ks (x ∷ xs) k = cache-more c (accessed same c x ks) xs k
 
-  misses-more : (c : ℕ) (ks xs : List K) (k : K) → missesFrom same c ks (xs ++ (k ∷ [])) ≡ cond (held same k (cacheFrom same c ks xs)) 0 1 + missesFrom same c ks xs
+  pub misses-more : (c : ℕ) (ks xs : List K) (k : K) → missesFrom same c ks (xs ++ (k ∷ [])) ≡ cond (held same k (cacheFrom same c ks xs)) 0 1 + missesFrom same c ks xs
   misses-more c ks [] k = refl
   misses-more c ks (x ∷ xs) k = let r = misses-more c (accessed same c x ks) xs k in omega arith
 

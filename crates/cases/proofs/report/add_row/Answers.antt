@@ -10,8 +10,13 @@ use Rattle.std.specs.shelf.Lists.{joined}
 use Rattle.locality.specs.Log.{distinct}
 use Rattle.cases.specs.Texts.{cellText, labelOf, valuesText, rowText}
 use Rattle.cases.specs.Values.{valueOf, firstIndex, endIndex}
-use Rattle.cases.proofs.Appends.{appended, joined-more, first-le-end}
+use Rattle.cases.proofs.Appends.{appended, joined-more, first-le-end, end-le}
 use Rattle.cases.proofs.report.add_row.Needs as need
+
+pub value-requires : need.value-requires
+value-requires g c κs =
+    let xs = c .args .keys .now in
+    omega (arith, c .loop-i-test .taken, c .end-index-end .ensures, end-le (c .args .curve) (length xs) (c .distinct-keys .result) (c .distinct-keys .ensures .bound))
 
 pub loop-i-again : need.loop-i-again
 loop-i-again g c =

@@ -1,46 +1,63 @@
-use mathlib.Core.Path.{_≡_, sym, ap, _∙_}
+use mathlib.Core.Path.{_≡_, sym, ap, ap₂, _∙_}
 use mathlib.Core.Bool.{true, false, cond}
-use mathlib.Core.List.{[], _∷_}
-use Prim.Native.Nat.{_+_}
+use mathlib.Core.List.{[], _++_}
+use Prim.Native.Nat.{_+_, _≤_}
 use native.Mathlib.Omega.{arith}
-use lib.ListN.{length, drop}
-use Rattle.std.specs.Of.Vec.{vec-items}
-use Rattle.std.proofs.shelf.Lists.{at-drop-more, at-drop-all}
+use lib.ListN.{length, take, drop}
+use Rattle.std.proofs.shelf.Lists.{take-all, take-at}
+use Rattle.std.proofs.shelf.Parts.{drop-append-drop}
 use Rattle.locality.specs.Log.{held}
 use Rattle.locality.specs.Cache.{accessed}
-use Rattle.locality.specs.ByPosition.{missesFrom}
-use Rattle.counting.proofs.Slices.{misses-slice}
+use Rattle.locality.specs.ByPosition.{cacheFrom, missesFrom}
+use Rattle.counting.proofs.Slices.{accessed-length, cache-step, misses-step, cache-slice, misses-slice}
 use Rattle.counting.proofs.simulation.lru_misses.Needs as need
-use Rattle.counting.proofs.simulation.lru_misses.Needs.{then-not-branch, else-not-branch}
+use Rattle.counting.proofs.simulation.lru_misses.Needs.{then-not-hit, else-not-hit}
 
 pub loop-key-again : need.loop-key-again
 loop-key-again g c =
     let same = g .K·Key .same in
-    let size = c .args .size in
-    let xs = c .args .keys .now in
+    let keys = c .args .keys .now in
+    let start = c .args .places .now in
+    let room = length start in
     let i = c .loop-key .key-index in
     let x = c .key-item .result in
-    let ks = vec-items (c .loop-key .cache) in
-    let hit : c .in-Continue-access .field-0 ≡ held same x ks = c .in-Continue-access .ensures tt .hits in
-    let next : vec-items (c .access .last .cache) ≡ accessed same size x ks = c .in-Continue-access .ensures tt .holds in
-    let rest = drop (i + 1) xs in
-    let step : missesFrom same size ks (drop i xs) ≡ cond (held same x ks) 0 1 + missesFrom same size (vec-items (c .access .last .cache)) rest
-    = at-drop-more (missesFrom same size ks) xs i x (c .loop-key-test .taken) ∙ ap (λ z. missesFrom same size ks (z ∷ rest)) (sym (c .key-item .is)) ∙ ap (λ zs. cond (held same x ks) 0 1 + missesFrom same size zs rest) (sym next) in
-    elim (c .if-not-branch .came) [
-      | then-not-branch w ↦
-          let y : held same x ks ≡ false = sym hit ∙ w .if-not-branch .taken in
-          let e : missesFrom same size ks (drop i xs) ≡ 1 + missesFrom same size (vec-items (c .access .last .cache)) rest = rw y at step in
-          (omega (arith, c .loop-key .inv .0, w .missed-is), omega (arith, c .loop-key .inv .1, w .missed-is, e))
-      | else-not-branch w ↦
-          let y : held same x ks ≡ true = sym hit ∙ w .if-not-branch .left in
-          let e : missesFrom same size ks (drop i xs) ≡ 0 + missesFrom same size (vec-items (c .access .last .cache)) rest = rw y at step in
-          (omega (arith, c .loop-key .inv .0, w .missed-is), omega (arith, c .loop-key .inv .1, w .missed-is, e))
+    let n = c .loop-key .count in
+    let xs = c .loop-key .places in
+    let ks = cacheFrom same room [] (take i keys) in
+    let r = c .access-hit .result in
+    let size : length ks ≡ n = sym (c .loop-key .inv .2) in
+    let front : take n xs ≡ ks = ap (take n) (c .loop-key .inv .3) ∙ take-at ks (drop n start) n size in
+    let next : accessed same (length xs) x (take n xs) ≡ accessed same room x ks = ap₂ (λ m l. accessed same m x l) (c .loop-key .kept .places) front in
+    let step : accessed same (length xs) x (take n xs) ≡ cacheFrom same room [] (take (i + 1) keys) = next ∙ sym (cache-step same room keys i x (c .loop-key-test .taken) (c .key-item .is)) in
+    let count : r .1 ≡ length (accessed same room x ks) = c .access-hit .ensures .count ∙ ap length next in
+    let grown = accessed-length same room x ks (omega (arith, size, c .loop-key .inv .1)) in
+    let behind : drop (r .1) xs ≡ drop (r .1) start = ap (drop (r .1)) (c .loop-key .inv .3) ∙ drop-append-drop n start ks (r .1) (omega (arith, count, size, grown .0)) size in
+    let hit : r .0 ≡ held same x ks = c .access-hit .ensures .hit ∙ ap (held same x) front in
+    let more = misses-step same room keys i x (c .loop-key-test .taken) (c .key-item .is) in
+    let fits : r .1 ≤ room = omega (arith, count, grown .1) in
+    let held-now : r .1 ≡ length (cacheFrom same room [] (take (i + 1) keys)) = c .access-hit .ensures .count ∙ ap length step in
+    let memory = c .access-hit .ensures .places ∙ ap₂ _++_ step behind in
+    elim (c .if-not-hit .came) [
+      | then-not-hit w ↦
+          let y : held same x ks ≡ false = sym hit ∙ w .if-not-hit .taken in
+          let e : missesFrom same room [] (take (i + 1) keys) ≡ 1 + missesFrom same room [] (take i keys) = rw y at more in
+          (omega (arith, c .loop-key .inv .0, w .missed-is), fits, held-now, memory, omega (arith, c .loop-key .inv .4, w .missed-is, e))
+      | else-not-hit w ↦
+          let y : held same x ks ≡ true = sym hit ∙ w .if-not-hit .left in
+          let e : missesFrom same room [] (take (i + 1) keys) ≡ 0 + missesFrom same room [] (take i keys) = rw y at more in
+          (omega (arith, c .loop-key .inv .0, w .missed-is), fits, held-now, memory, omega (arith, c .loop-key .inv .4, w .missed-is, e))
     ]
 
 pub returns : need.returns
 returns g c =
     let same = g .K·Key .same in
-    let xs = c .args .keys .now in
-    let f = missesFrom same (c .args .size) (vec-items (c .loop-key .cache)) in
-    let z = at-drop-all f xs (c .loop-key .key-index) (c .loop-key-test .left) in
-    omega (arith, c .loop-key .inv .1, z, misses-slice (g .K·Key·met .lawful) (c .args .size) xs)
+    let laws = g .K·Key·met .lawful in
+    let keys = c .args .keys .now in
+    let start = c .args .places .now in
+    let room = length start in
+    let all = take-all (c .loop-key .key-index) keys (c .loop-key-test .left) in
+    let held-now = ap (cacheFrom same room []) all ∙ sym (cache-slice laws room keys) in
+    record {
+      misses = c .loop-key .inv .4 ∙ ap (missesFrom same room []) all ∙ sym (misses-slice laws room keys);
+      places = c .loop-key .inv .3 ∙ ap₂ (λ l n. l ++ drop n start) held-now (c .loop-key .inv .2 ∙ ap length held-now);
+    }

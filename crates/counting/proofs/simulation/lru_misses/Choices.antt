@@ -1,12 +1,14 @@
 use mathlib.Core.Path.{_≡_}
-use mathlib.Core.List.{[]}
-use Prim.Native.Nat.{_+_, _≤_}
-use lib.ListN.{drop}
-use Rattle.std.specs.Of.Vec.{vec-items}
-use Rattle.locality.specs.ByPosition.{missesFrom}
+use mathlib.Core.List.{[], _++_}
+use Prim.Native.Nat.{_≤_}
+use lib.ListN.{length, take, drop}
+use Rattle.locality.specs.ByPosition.{cacheFrom, missesFrom}
 use Rattle.counting.proofs.simulation.lru_misses.Given as given
 
 abbrev pub Inv-loop-key : given.InvT-loop-key
 Inv-loop-key g l =
     (l .missed ≤ l .key-index)
-    × (l .missed + missesFrom (g .K·Key .same) (l .size) (vec-items (l .cache)) (drop (l .key-index) (l .keys)) ≡ missesFrom (g .K·Key .same) (l .size) [] (l .keys))
+    × (l .count ≤ length (l .entry .places))
+    × (l .count ≡ length (cacheFrom (g .K·Key .same) (length (l .entry .places)) [] (take (l .key-index) (l .keys))))
+    × (l .places ≡ cacheFrom (g .K·Key .same) (length (l .entry .places)) [] (take (l .key-index) (l .keys)) ++ drop (l .count) (l .entry .places))
+    × (l .missed ≡ missesFrom (g .K·Key .same) (length (l .entry .places)) [] (take (l .key-index) (l .keys)))
