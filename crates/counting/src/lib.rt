@@ -4,4 +4,6 @@ mod finds;
 pub mod gaps;
 pub mod looks;
 pub mod simulation;
+#[cfg(test)]
+mod tests;
 pub mod windows;

@@ -247,12 +247,26 @@ module _ {K : Type 0} {same : K → K → Bool} (laws : Lawful same) where
       (cases-bool (held same k past)) in
       (front, all-without (First (k ∷ past)) (λ e. same k (e .key)) es old)
 
+  -- an entry has the time of its own key
+  own-times : (es : List (Entry K)) → Apart same es → All (λ e. e .time ≡ timeOf same (e .key) es) es
+  own-times [] o = tt
+  own-times (e ∷ es) o =
+      let x = laws .reflexive (e .key) in
+      let behind = all-both (λ f. same (e .key) (f .key) ≡ false) (λ f. f .time ≡ timeOf same (f .key) es) es (o .0) (own-times es (o .1)) in (
+        rw x,
+        all-weaker (λ f. (same (e .key) (f .key) ≡ false) × (f .time ≡ timeOf same (f .key) es)) (λ f. f .time ≡ timeOf same (f .key) (e ∷ es))
+            (λ f h. let y : same (f .key) (e .key) ≡ false = flip laws (f .key) (e .key) ∙ h .0 in rw y (h .1)) es behind,
+      )
+
   pub recency-list : (log : List K) → RecencyList same log
   recency-list log = record {
     orderly = recent-orderly log;
     holds = λ k. held-recent k log;
     once = recent-length log;
     last = times-lasts log;
+    under-last =
+        all-weaker (λ e. e .time ≡ timeOf same (e .key) (recent same log)) (λ e. e .time ≡ former same (e .key) log)
+        (λ e h. h ∙ time-former (e .key) log) (recent same log) (own-times (recent same log) (recent-orderly log .apart));
     first-stored = all-weaker (First log) (λ e. e .key ≡ stored same (e .key) (reverse log)) (λ e h. h .1) (recent same log) (firsts-stored log);
   }
 

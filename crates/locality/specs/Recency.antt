@@ -15,10 +15,11 @@ use Rattle.locality.specs.declared.entry.Entry.{Entry}
 abbrev pub atTime : {K : Type 0} → K → ℕ → Entry K
 atTime k t = record { key = k; time = t }
 
--- the keys, and the times, of entries
+-- the keys of entries
 abbrev pub keys : {K : Type 0} → List (Entry K) → List K
 keys es = map (λ e. e .key) es
 
+-- the times of entries
 abbrev pub timesOf : {K : Type 0} → List (Entry K) → List ℕ
 timesOf es = map (λ e. e .time) es
 

@@ -54,13 +54,15 @@ NextFromRecency {K} same =
     (interval same k past ≡ mapped (λ f. suc (length past) - f .1) (found same k (recent same past)))
     × (distance same k past ≡ mapped (λ f. f .0) (found same k (recent same past)))
 
--- the recency list of a log has the log's keys, each different one once, under its last position, newest first,
--- and the key of an entry is the first of its same keys, the accesses taken oldest first
+-- the recency list of a log has the log's keys, each different one once, newest first; its times are the last positions,
+-- each entry's the newest position with a same key; and the key of an entry is the first of its same keys, the accesses
+-- taken oldest first
 pub record RecencyList {K : Type 0} (same : K → K → Bool) (log : List K) : Type 0 where
   pub orderly : Orderly same (recent same log)
   pub holds : (k : K) → held same k (keys (recent same log)) ≡ held same k log
   pub once : length (recent same log) ≡ distinct same log
   pub last : timesOf (recent same log) ≡ lasts same log
+  pub under-last : All (λ e. e .time ≡ former same (e .key) log) (recent same log)
   pub first-stored : All (λ e. e .key ≡ stored same (e .key) (reverse log)) (recent same log)
 
 -- a put back of the former time after a touch gives the list before it, on every orderly list and so on every log's

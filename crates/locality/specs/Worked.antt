@@ -60,13 +60,15 @@ Holds (unfilled accesses c number) =
     × (numberOf SizeAboveKeys ≡ number)
 Holds (lined p q answer) = oneLine (record { address = p }) (record { address = q }) ≡ answer
 
--- three letters
+-- the letter a
 abbrev a : ℕ
 a = 1
 
+-- the letter b
 abbrev b : ℕ
 b = 2
 
+-- the letter c
 abbrev c : ℕ
 c = 3
 

@@ -3,6 +3,8 @@
 mod call;
 mod entry;
 mod tables;
+#[cfg(test)]
+mod tests;
 pub mod theorems;
 
 pub use call::Call;

@@ -1,5 +1,5 @@
 // The theorems, each the contract of a function named after what it says, over every lawful key kind.
-// Where a computation goes with a theorem, the function makes it; the others answer nothing.
+// Where a computation goes with a theorem, the function makes it; the others have nothing to answer.
 ghost use mathlib.Core.List.{List};
 ghost use Rattle.locality.specs.Statements.{TotalFromTable, MissesFromTable, TablesTellTotals, NextFromRecency, RecencyList, PutBackUndoes, DepthFromTimes, TextbookAgrees};
 ghost use Rattle.locality.specs.Worked.{WorkedBursts};
@@ -33,43 +33,31 @@ pub fn gaps_tell_totals<K: Key, L: Key>(one: &[u32], other: &[u32]) -> bool
 }
 
 // Interval and distance of the next access can be read off the recency list.
-pub fn next_from_recency<K: Key>() -> u8
+pub fn next_from_recency<K: Key>()
     ensures { λ _. ⌜ NextFromRecency same ⌝ }
-{
-    0
-}
+{}
 
 // The recency list has each different key once, under its last position, newest first, as first stored.
-pub fn recency_list_of_a_log<K: Key>() -> u8
+pub fn recency_list_of_a_log<K: Key>()
     ensures { λ _. ⌜ ((log : List K) → RecencyList same log) ⌝ }
-{
-    0
-}
+{}
 
 // A put back of the former time after a touch gives the list before it.
-pub fn put_back_undoes_touch<K: Key>() -> u8
+pub fn put_back_undoes_touch<K: Key>()
     ensures { λ _. ⌜ PutBackUndoes same ⌝ }
-{
-    0
-}
+{}
 
 // The depth of a key is one more than the number of later times.
-pub fn depth_from_later_times<K: Key>() -> u8
+pub fn depth_from_later_times<K: Key>()
     ensures { λ _. ⌜ DepthFromTimes same ⌝ }
-{
-    0
-}
+{}
 
 // Every definition in use is the textbook's, by position and oldest first.
-pub fn textbook_agrees<K: Key>() -> u8
+pub fn textbook_agrees<K: Key>()
     ensures { λ _. ⌜ TextbookAgrees same ⌝ }
-{
-    0
-}
+{}
 
 // The worked bursts have the values that docs/LOCALITY.md states.
-pub fn worked_bursts() -> u8
+pub fn worked_bursts()
     ensures { λ _. ⌜ WorkedBursts ⌝ }
-{
-    0
-}
+{}
