@@ -22,7 +22,7 @@ foundIn (Err e) = None
 -- the value of a curve at i: a length, an entry, a size or a position
 abbrev pub valueOf : {K : Type 0} → (K → K → Bool) → Curve → ℕ → List K → Option ℕ
 valueOf same Totals w log = Some (total same w log)
-valueOf same Windows w log = Some (length (windows same w log))
+valueOf same Windows w log = Some (length (windows w log))
 valueOf same Gaps i log = Some (gapCount same i log)
 valueOf same Misses c log = Some (misses same c log)
 valueOf same Intervals t log = foundIn (intervalAnswer same t log)

@@ -176,8 +176,8 @@ module _ {K : Type 0} {same : K → K → Bool} (laws : Lawful same) where
   gap-slice xs i =
       let ps = positions (length xs) in
       let t = textbook laws (reverse xs) .gaps i in
-      let g : gapCount same i (reverse xs) ≡ positionsWith same (intervalOf same xs) i xs + times i (firstPositions same xs) + times i (map (λ l. suc (length xs) - l) (lastPositions same xs))
-      = t ∙ ap₂ (λ ys n. positionsWith same (intervalOf same ys) i ys + times i (firstPositions same ys) + times i (map (λ l. suc n - l) (lastPositions same ys))) (reverse-reverse xs) (length-reverse xs) in
+      let g : gapCount same i (reverse xs) ≡ positionsWith (intervalOf same xs) i xs + times i (firstPositions same xs) + times i (map (λ l. suc (length xs) - l) (lastPositions same xs))
+      = t ∙ ap₂ (λ ys n. positionsWith (intervalOf same ys) i ys + times i (firstPositions same ys) + times i (map (λ l. suc n - l) (lastPositions same ys))) (reverse-reverse xs) (length-reverse xs) in
       let f = times-kept (λ t. eqb (formerOf same xs t) 0) i ps in
       let l = map-kept (λ l. suc (length xs) - l) (λ t. eqb (greatest (sameAt same xs t) (length xs)) t) i ps in
       let s = sumOver-each (shareOf same xs i) (λ t. middles xs i t + starts xs i t + ends xs i t) (share-parts xs i) ps in

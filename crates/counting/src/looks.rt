@@ -57,7 +57,7 @@ fn distance_at<K: Key>(keys: &[K], position: usize) -> Option<usize>
 
 // Whether an access has the position.
 fn is_position<K: Key>(keys: &[K], position: usize) -> bool
-    ensures test { λ r. ⌜ r ≡ isPosition same position (reverse (now (keys .entry))) ⌝ }
+    ensures test { λ r. ⌜ r ≡ isPosition position (reverse (now (keys .entry))) ⌝ }
     ensures within { λ r. ⌜ (r ≡ true → (1 ≤ position) × (position ≤ length (now (keys .entry)))) ⌝ }
 {
     position >= 1 && position <= keys.len()

@@ -25,14 +25,14 @@ pub fn distinct_keys<K: Key>(keys: &[K]) -> usize
 // The footprint total of a window length, and the number of windows: 0 and 0 where it is longer than the burst.
 pub fn footprint<K: Key>(keys: &[K], window: usize) -> (u128, u128)
     ensures total { λ r. ⌜ r .0 ≡ total same window (reverse (now (keys .entry))) ⌝ }
-    ensures windows { λ r. ⌜ r .1 ≡ length (windows same window (reverse (now (keys .entry)))) ⌝ }
+    ensures windows { λ r. ⌜ r .1 ≡ length (windows window (reverse (now (keys .entry)))) ⌝ }
 {
     (footprint_total(keys, window), window_count(keys, window))
 }
 
 // The number of windows of a length.
 fn window_count<K: Key>(keys: &[K], window: usize) -> u128
-    ensures { λ r. ⌜ r ≡ length (windows same window (reverse (now (keys .entry)))) ⌝ }
+    ensures { λ r. ⌜ r ≡ length (windows window (reverse (now (keys .entry)))) ⌝ }
 {
     if window > keys.len() {
         return 0;

@@ -1,21 +1,22 @@
 -- What totals and gaps say of one another. Assumes nothing.
 use mathlib.Core.Path.{_≡_, refl, sym, ap, ap₂, _∙_}
 use mathlib.Core.Logic.{⊎-elim}
-use mathlib.Core.Bool.{Bool}
+use mathlib.Core.Bool.{Bool, true, false, cond, false≢true}
 use mathlib.Core.List.{List, [], _∷_}
 use Prim.Native.Nat.{ℕ, zero, suc, _+_, _-_, _*_, _≤_, _<_}
 use native.Mathlib.Nat.{eq-of-mul-eq-mul-right}
 use native.Mathlib.Omega.{arith}
 use lib.ListN.{length}
-use Rattle.std.proofs.shelf.Tests.{cases-lt}
+use Rattle.std.proofs.shelf.Tests.{cases-lt, cases-bool}
 use Rattle.std.proofs.shelf.Elements.{all-weaker}
 use Rattle.std.specs.shelf.Lists.{All}
 use Rattle.keys.specs.Sameness.{Lawful}
 use Rattle.locality.proofs.Sums.{sumOver-none, sumAbove-same, second}
-use Rattle.locality.proofs.Totals.{gaps, gap-bounds, gap-times, gap-balance, beyond-table}
+use Rattle.locality.proofs.Reuse.{since, distance-since}
+use Rattle.locality.proofs.Totals.{interval-bounds, gaps, gap-bounds, gap-times, gap-balance, beyond-table}
 use Rattle.locality.specs.Numbers.{sumOver, isNumber, sumAbove}
-use Rattle.locality.specs.Log.{distinct, total, gapCount}
-use Rattle.locality.specs.Statements.{gapSum, SameGaps, TotalsTellGaps}
+use Rattle.locality.specs.Log.{held, distinct, total, intervals, distances, gapCount}
+use Rattle.locality.specs.Statements.{gapSum, SameGaps, TotalsTellGaps, WholeBurstFills, EntryZeroIsEmpty}
 
 -- equal gap tables have equal sums
 same-sums : {K L : Type 0} (same : K → K → Bool) (like : L → L → Bool) (xs : List K) (ys : List L) → length xs ≡ length ys → SameGaps same xs like ys → (w : ℕ) → gapSum same w xs ≡ gapSum like w ys
@@ -43,6 +44,41 @@ module _ {K : Type 0} {same : K → K → Bool} (laws : Lawful same) where
       let e : suc n - n ≡ 1 = omega arith in
       let b : total same n log + sumOver (λ g. g - n) (gaps laws log) ≡ distinct same log * 1 = rw e at (gap-balance laws n log) in
       omega arith
+
+  -- a list with an element has a key
+  some-key : (x : K) (xs : List K) → 1 ≤ distinct same (x ∷ xs)
+  some-key x [] = omega arith
+  some-key x (y ∷ ys) = let r = some-key y ys in omega arith
+
+  some-since : (k : K) (past : List K) → held same k past ≡ true → 1 ≤ distinct same (since same k past)
+  some-since k [] y = absurd (false≢true y)
+  some-since k (x ∷ past) y = some-key x (cond (same k x) [] (since same k past))
+
+  -- a distance counts the own key
+  distance-positive : (log : List K) → All (λ d. 1 ≤ d) (distances same log)
+  distance-positive [] = tt
+  distance-positive (k ∷ past) =
+      let r = distance-positive past in
+      let ds = distance-since same k past in
+      ⊎-elim
+      (λ (y : held same k past ≡ true). rw (ds, y) (some-since k past y, r))
+      (λ (y : held same k past ≡ false). rw (ds, y) r)
+      (cases-bool (held same k past))
+
+  pub whole-fills : WholeBurstFills same
+  whole-fills log c h =
+      let n = length log in
+      let e : n - n + 1 ≡ 1 = omega arith in
+      let t = total-whole log in
+      (h, (omega arith, rw e (omega arith)))
+
+  pub zero-empty : EntryZeroIsEmpty same
+  zero-empty log =
+      let none = λ (gs : List ℕ) (h : All (λ g. 1 ≤ g) gs). sumOver-none (isNumber 0) gs (all-weaker (λ g. 1 ≤ g) (λ g. isNumber 0 g ≡ 0) (λ g l. grind arith) gs h) in (
+        no-gap-zero log,
+        none (intervals same log) (all-weaker (λ g. (1 ≤ g) × (g ≤ length log)) (λ g. 1 ≤ g) (λ g h. h .0) (intervals same log) (interval-bounds laws log)),
+        none (distances same log) (distance-positive log),
+      )
 
 module _ {K L : Type 0} {same : K → K → Bool} {like : L → L → Bool} (laws : Lawful same) (laws′ : Lawful like) where
   -- equal totals: equal sums beyond each length

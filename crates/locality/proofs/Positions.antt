@@ -5,11 +5,11 @@ use mathlib.Core.Bool.{Bool, true, false, cond, _||_}
 use mathlib.Core.List.{List, [], _∷_, _++_, map, reverse}
 use Prim.Native.Nat.{ℕ, zero, suc, _+_, _-_, _≤_, _<_}
 use native.Mathlib.Omega.{arith}
-use lib.Dec.{eqb, leb}
+use lib.Dec.{eqb, leb, ltb}
 use lib.ListN.{length, take, drop}
 use Rattle.std.proofs.shelf.Counted.{map-counting-more}
 use Rattle.std.proofs.shelf.Elements.{kept-by-append}
-use Rattle.std.proofs.shelf.Lists.{append-nil, reverse-append, length-reverse, length-append, length-take, length-drop, take-all, take-append-le, drop-append-le, drop-at, take-append-drop, map-append}
+use Rattle.std.proofs.shelf.Lists.{append-nil, reverse-append, length-reverse, length-append, length-take, length-drop, take-all, take-at, take-append-le, drop-append-le, drop-at, take-append-drop, map-append}
 use Rattle.std.proofs.shelf.Tests.{cases-bool, cases-lt}
 use Rattle.std.specs.Iters.{counting}
 use Rattle.std.specs.shelf.Lists.{kept-by}
@@ -18,14 +18,17 @@ use Rattle.std.specs.declared.option.Option.{Option}
 use Rattle.std.specs.declared.option.Option.the-variants.{Some, None}
 use Rattle.keys.specs.Sameness.{Lawful}
 use Rattle.locality.proofs.Sums.{sumOver-append, sumOver-map, sumOver-each}
-use Rattle.locality.proofs.Sameness.{distinct-reverse}
+use Rattle.locality.proofs.Sameness.{held-reverse, distinct-reverse}
 use Rattle.locality.proofs.Reuse.{former-le, former-held, former-absent}
 use Rattle.locality.specs.Numbers.{sumOver, isNumber, times}
 use Rattle.locality.specs.Log.{listed, held, distinct, windows, total, former, back, interval, distance, upTo, newestInterval, newestDistance, intervalAt, distanceAt, intervals, distances, firsts, lastsBefore, lasts}
 use Rattle.locality.specs.Recency.{touched, recent}
 use Rattle.locality.specs.Cache.{accessed, cache, misses}
-use Rattle.locality.specs.ByPosition.{keyAt, newestKey, positions, greatest, window, windowsByStart, alike, sameAt, formerOf, unlessFirst, intervalOf, distanceOf, firstPositions, lastPositions, positionsWith, cacheFrom, missesFrom, recentFrom, Textbook}
+use Rattle.locality.specs.Calls.{recordLog, retractLog, logAfter}
+use Rattle.locality.specs.ByPosition.{keyAt, newestKey, positions, greatest, window, windowsByStart, alike, sameAt, formerOf, unlessFirst, intervalOf, distanceOf, firstPositions, lastPositions, positionsWith, cacheFrom, missesFrom, recentFrom, withoutNewest, appended, standingAfter, Textbook}
 use Rattle.locality.specs.Statements.{TextbookAgrees}
+use Rattle.locality.specs.declared.call.Call.{Call}
+use Rattle.locality.specs.declared.call.Call.the-variants.{Record, Retract, Clear}
 use Rattle.locality.specs.declared.entry.Entry.{Entry}
 
 pub reverse-more : {X : Type 0} (k : X) (past : List X) → reverse (k ∷ past) ≡ reverse past ++ (k ∷ [])
@@ -136,10 +139,10 @@ module _ {K : Type 0} (same : K → K → Bool) where
       ∙ former-greatest k past
 
   -- the log up to a position
-  upTo-all : (k : K) (past : List K) → upTo same (suc (length past)) (k ∷ past) ≡ k ∷ past
+  upTo-all : (k : K) (past : List K) → upTo (suc (length past)) (k ∷ past) ≡ k ∷ past
   upTo-all k past = let e : suc (length past) - suc (length past) ≡ 0 = omega arith in rw e
 
-  upTo-more : (t : ℕ) (k : K) (past : List K) → t ≤ length past → upTo same t (k ∷ past) ≡ upTo same t past
+  upTo-more : (t : ℕ) (k : K) (past : List K) → t ≤ length past → upTo t (k ∷ past) ≡ upTo t past
   upTo-more t k past h = let e : suc (length past) - t ≡ suc (length past - t) = omega arith in rw e
 
   -- a thing told by the log up to t and by position t: at the newest position, and at the earlier ones
@@ -147,7 +150,7 @@ module _ {K : Type 0} (same : K → K → Bool) where
       → (f [] ≡ g [] 0)
       → ((k : K) (past : List K) → f (k ∷ past) ≡ g (reverse (k ∷ past)) (suc (length past)))
       → ((k : K) (past : List K) (t : ℕ) → t ≤ length past → g (reverse (k ∷ past)) t ≡ g (reverse past) t)
-      → (log : List K) (t : ℕ) → t ≤ length log → f (upTo same t log) ≡ g (reverse log) t
+      → (log : List K) (t : ℕ) → t ≤ length log → f (upTo t log) ≡ g (reverse log) t
   by-position f g none new old [] zero h = none
   by-position f g none new old [] (suc t) h = absurd (omega arith)
   by-position f g none new old (k ∷ past) t h =
@@ -223,7 +226,7 @@ module _ {K : Type 0} (same : K → K → Bool) where
 
   -- windows
   abbrev byStart : ℕ → List K → List (List K)
-  byStart w log = reverse (map reverse (windows same w log))
+  byStart w log = reverse (map reverse (windows w log))
 
   starts : (w : ℕ) (log : List K) → byStart w log ≡ windowsByStart w (reverse log)
   starts zero [] = refl
@@ -239,7 +242,7 @@ module _ {K : Type 0} (same : K → K → Bool) where
       ⊎-elim
       (λ (l : w < suc (suc n)).
       let y : leb w (suc n) ≡ true = grind arith in
-      let split : byStart w (k ∷ past) ≡ byStart w past ++ (reverse (take w (k ∷ past)) ∷ []) = rw y (reverse-more (reverse (take w (k ∷ past))) (map reverse (windows same w past))) in
+      let split : byStart w (k ∷ past) ≡ byStart w past ++ (reverse (take w (k ∷ past)) ∷ []) = rw y (reverse-more (reverse (take w (k ∷ past))) (map reverse (windows w past))) in
       let m : suc (suc n) - w ≡ suc n - w + 1 = omega arith in
       let more : map f (positions (suc (suc n) - w)) ≡ map f (positions (suc n - w)) ++ (f (1 + (suc n - w)) ∷ [])
       = ap (λ j. map f (positions j)) m ∙ map-counting-more f 1 (suc n - w) (1 + (suc n - w)) refl in
@@ -275,7 +278,7 @@ module _ {K : Type 0} (same : K → K → Bool) where
   tallied : (newest : K → List K → Option ℕ) (g : List K → ℕ → Option ℕ)
       → ((k : K) (past : List K) → newest k past ≡ g (reverse (k ∷ past)) (suc (length past)))
       → ((k : K) (past : List K) (t : ℕ) → t ≤ length past → g (reverse (k ∷ past)) t ≡ g (reverse past) t)
-      → (i : ℕ) (log : List K) → times i (collected newest log) ≡ positionsWith same (g (reverse log)) i (reverse log)
+      → (i : ℕ) (log : List K) → times i (collected newest log) ≡ positionsWith (g (reverse log)) i (reverse log)
   tallied newest g new old i [] = refl
   tallied newest g new old i (k ∷ past) =
       let n = length past in
@@ -346,7 +349,7 @@ module _ {K : Type 0} {same : K → K → Bool} (laws : Lawful same) where
 
   totals : (w : ℕ) (log : List K) → total same w log ≡ sumOver (distinct same) (windowsByStart w (reverse log))
   totals w log =
-      let ws = windows same w log in
+      let ws = windows w log in
       sym (sumOver-each (λ xs. distinct same (reverse xs)) (distinct same) (distinct-reverse laws) ws)
       ∙ sym (sumOver-map (distinct same) reverse ws)
       ∙ sym (sumOver-reverse (distinct same) (map reverse ws))
@@ -432,7 +435,35 @@ module _ {K : Type 0} {same : K → K → Bool} (laws : Lawful same) where
       ∙ kept-same p q 1 n (λ t a b. ap (λ h. cond h false (q t)) (held-none (keyAt xs t)))
       ∙ ap (λ l. kept-by (λ t. eqb (greatest (sameAt same xs t) l) t) (positions l)) (sym (length-reverse log))
 
-  pub textbook : TextbookAgrees same
+  -- the access log, one call on
+  append-step : (places : ℕ) (k : K) (log : List K) → reverse (recordLog same places k log) ≡ appended same places k (reverse log)
+  append-step places k log =
+      let n = length-reverse log in
+      let h = held-reverse laws k log in
+      let d = distinct-reverse laws log in
+      rw (n, h, d)
+      (⊎-elim
+      (λ (y : ltb (length log) 4096 ≡ true).
+      ⊎-elim
+      (λ (z : (held same k log || ltb (distinct same log) places) ≡ true). rw (y, z) (reverse-more k log))
+      (λ (z : (held same k log || ltb (distinct same log) places) ≡ false). rw (y, z))
+      (cases-bool (held same k log || ltb (distinct same log) places)))
+      (λ (y : ltb (length log) 4096 ≡ false). rw y)
+      (cases-bool (ltb (length log) 4096)))
+
+  retract-step : (log : List K) → reverse (retractLog log) ≡ withoutNewest (reverse log)
+  retract-step [] = refl
+  retract-step (k ∷ past) =
+      let n : length (reverse past) ≡ length (reverse (k ∷ past)) - 1 = omega (arith, length-reverse past, length-reverse (k ∷ past)) in
+      sym (ap (take (length (reverse (k ∷ past)) - 1)) (reverse-more k past) ∙ take-at (reverse past) (k ∷ []) (length (reverse (k ∷ past)) - 1) n)
+
+  calls-step : (places : ℕ) (calls : List (Call K)) (log : List K) → reverse (logAfter same places calls log) ≡ standingAfter same places calls (reverse log)
+  calls-step places [] log = refl
+  calls-step places (Record k ∷ calls) log = calls-step places calls (recordLog same places k log) ∙ ap (standingAfter same places calls) (append-step places k log)
+  calls-step places (Retract ∷ calls) log = calls-step places calls (retractLog log) ∙ ap (standingAfter same places calls) (retract-step log)
+  calls-step places (Clear ∷ calls) log = calls-step places calls []
+
+  pub textbook : (log : List K) → Textbook same log
   textbook log =
       let xs = reverse log in
       let reuses = λ (i : ℕ). ap (times i) (intervals-collected same log) ∙ tallied same (interval same) (intervalOf same) (new-interval same) (old-interval same) i log in
@@ -457,3 +488,6 @@ module _ {K : Type 0} {same : K → K → Bool} (laws : Lawful same) where
         misses = λ c. missed same c log;
         recency = recency same log;
       }
+
+  pub agrees : TextbookAgrees same
+  agrees = (textbook, λ places calls. calls-step places calls [])

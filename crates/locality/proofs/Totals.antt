@@ -60,7 +60,7 @@ module _ {K : Type 0} {same : K → K → Bool} (laws : Lawful same) where
       omega arith)
       (cases-bool (held same k past))
 
-  pub windows-count : (w : ℕ) (log : List K) → length (windows same w log) ≡ suc (length log) - w
+  pub windows-count : (w : ℕ) (log : List K) → length (windows w log) ≡ suc (length log) - w
   windows-count w [] = grind arith
   windows-count w (k ∷ past) = let r = windows-count w past in grind arith
 

@@ -1,20 +1,23 @@
 -- The same definitions as a textbook gives them: the accesses oldest first, each thing told by its position.
 use mathlib.Core.Path.{_≡_}
-use mathlib.Core.Bool.{Bool, false, cond}
+use mathlib.Core.Bool.{Bool, false, cond, _||_, _&&_}
 use mathlib.Core.List.{List, [], _∷_, _++_, map, reverse}
 use Prim.Native.Nat.{ℕ, zero, suc, _+_, _-_, _≤_}
-use lib.Dec.{eqb}
+use lib.Dec.{eqb, ltb}
 use lib.ListN.{length, take, drop}
 use Rattle.std.specs.Iters.{counting}
 use Rattle.std.specs.shelf.Lists.{kept-by}
 use Rattle.std.specs.shelf.Maps.{nth}
 use Rattle.std.specs.declared.option.Option.{Option}
 use Rattle.std.specs.declared.option.Option.the-variants.{Some, None}
+use Rattle.locality.specs.declared.call.Call.{Call}
+use Rattle.locality.specs.declared.call.Call.the-variants.{Record, Retract, Clear}
 use Rattle.locality.specs.declared.entry.Entry.{Entry}
 use Rattle.locality.specs.Numbers.{sumOver, times}
 use Rattle.locality.specs.Log.{listed, held, distinct, windows, total, former, intervalAt, distanceAt, reuseCount, depthCount, firsts, lasts, gapCount, upTo}
 use Rattle.locality.specs.Recency.{touched, recent}
 use Rattle.locality.specs.Cache.{accessed, cache, misses}
+use Rattle.locality.specs.Calls.{mostAccesses}
 
 -- position t, counted from 1: the t-th key
 abbrev pub keyAt : {K : Type 0} → List K → ℕ → Option K
@@ -42,6 +45,14 @@ window w s xs = take w (drop (s - 1) xs)
 -- the windows of length w, by their start
 abbrev pub windowsByStart : {K : Type 0} → ℕ → List K → List (List K)
 windowsByStart w xs = map (λ s. window w s xs) (positions (suc (length xs) - w))
+
+-- the number of positions at which an answer is i
+abbrev pub positionsWith : {K : Type 0} → (ℕ → Option ℕ) → ℕ → List K → ℕ
+positionsWith answer i xs = sumOver (λ t. times i (listed (answer t))) (positions (length xs))
+
+-- the accesses without the newest, which stands last
+abbrev pub withoutNewest : {K : Type 0} → List K → List K
+withoutNewest xs = take (length xs - 1) xs
 
 module _ {K : Type 0} (same : K → K → Bool) where
   -- two keys that are there are the same
@@ -77,10 +88,6 @@ module _ {K : Type 0} (same : K → K → Bool) where
   abbrev pub lastPositions : List K → List ℕ
   lastPositions xs = kept-by (λ t. eqb (greatest (sameAt xs t) (length xs)) t) (positions (length xs))
 
-  -- the number of positions at which an answer is i
-  abbrev pub positionsWith : (ℕ → Option ℕ) → ℕ → List K → ℕ
-  positionsWith answer i xs = sumOver (λ t. times i (listed (answer t))) (positions (length xs))
-
   -- a cache of c places that holds ks, stepped from the oldest access on: what it then holds, and its misses
   abbrev pub cacheFrom : ℕ → List K → List K → List K
   cacheFrom c ks [] = ks
@@ -95,24 +102,37 @@ module _ {K : Type 0} (same : K → K → Bool) where
   recentFrom t es [] = es
   recentFrom t es (k ∷ later) = recentFrom (suc t) (touched same k t es) later
 
+  -- an access appended, where fewer than 4,096 stand and its key is held or a place is free
+  abbrev pub appended : ℕ → K → List K → List K
+  appended places k xs =
+      cond (ltb (length xs) mostAccesses && (held same k xs || ltb (distinct same xs) places)) (xs ++ (k ∷ [])) xs
+
+  -- the standing accesses after calls that began on some, oldest first: a record appends, a retract takes the last one
+  -- off, a clear empties
+  abbrev pub standingAfter : ℕ → List (Call K) → List K → List K
+  standingAfter places [] xs = xs
+  standingAfter places (Record k ∷ calls) xs = standingAfter places calls (appended places k xs)
+  standingAfter places (Retract ∷ calls) xs = standingAfter places calls (withoutNewest xs)
+  standingAfter places (Clear ∷ calls) xs = standingAfter places calls []
+
 -- each definition in use, on a log, is the textbook's on the same accesses oldest first
 pub record Textbook {K : Type 0} (same : K → K → Bool) (log : List K) : Type 0 where
   -- recording appends
   pub appends : (k : K) → reverse (k ∷ log) ≡ reverse log ++ (k ∷ [])
   -- position t is the t-th key
-  pub position : (t : ℕ) → t ≤ length log → newestKey (upTo same t log) ≡ keyAt (reverse log) t
+  pub position : (t : ℕ) → t ≤ length log → newestKey (upTo t log) ≡ keyAt (reverse log) t
   -- the former position of the next access
   pub formerly : (k : K) → former same k log ≡ formerOf same (reverse (k ∷ log)) (suc (length log))
   pub interval : (t : ℕ) → t ≤ length log → intervalAt same t log ≡ intervalOf same (reverse log) t
   pub distance : (t : ℕ) → t ≤ length log → distanceAt same t log ≡ distanceOf same (reverse log) t
   -- the windows, each read oldest first, the earliest first
-  pub starts : (w : ℕ) → reverse (map reverse (windows same w log)) ≡ windowsByStart w (reverse log)
+  pub starts : (w : ℕ) → reverse (map reverse (windows w log)) ≡ windowsByStart w (reverse log)
   pub totals : (w : ℕ) → total same w log ≡ sumOver (distinct same) (windowsByStart w (reverse log))
-  pub reuses : (i : ℕ) → reuseCount same i log ≡ positionsWith same (intervalOf same (reverse log)) i (reverse log)
-  pub depths : (d : ℕ) → depthCount same d log ≡ positionsWith same (distanceOf same (reverse log)) d (reverse log)
+  pub reuses : (i : ℕ) → reuseCount same i log ≡ positionsWith (intervalOf same (reverse log)) i (reverse log)
+  pub depths : (d : ℕ) → depthCount same d log ≡ positionsWith (distanceOf same (reverse log)) d (reverse log)
   pub first : reverse (firsts same log) ≡ firstPositions same (reverse log)
   pub last : reverse (lasts same log) ≡ lastPositions same (reverse log)
-  pub gaps : (i : ℕ) → gapCount same i log ≡ positionsWith same (intervalOf same (reverse log)) i (reverse log) + times i (firstPositions same (reverse log)) + times i (map (λ l. suc (length log) - l) (lastPositions same (reverse log)))
+  pub gaps : (i : ℕ) → gapCount same i log ≡ positionsWith (intervalOf same (reverse log)) i (reverse log) + times i (firstPositions same (reverse log)) + times i (map (λ l. suc (length log) - l) (lastPositions same (reverse log)))
   pub caches : (c : ℕ) → cache same c log ≡ cacheFrom same c [] (reverse log)
   pub misses : (c : ℕ) → misses same c log ≡ missesFrom same c [] (reverse log)
   pub recency : recent same log ≡ recentFrom same 1 [] (reverse log)

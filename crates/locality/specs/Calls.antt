@@ -25,6 +25,15 @@ paired None d = None
 paired (Some i) None = None
 paired (Some i) (Some d) = Some (i, d)
 
+-- t is a position of the log
+abbrev pub isPosition : {K : Type 0} → ℕ → List K → Bool
+isPosition t log = leb 1 t && leb t (length log)
+
+-- a key in front of the log, unless the call was refused
+abbrev pub unlessRefused : {X K : Type 0} → Result X Refusal → K → List K → List K
+unlessRefused (Ok x) k log = k ∷ log
+unlessRefused (Err e) k log = log
+
 -- retract: an access stands, else nothing is there to take back
 abbrev pub retractAnswer : {K : Type 0} → List K → Result (Unit {0}) Refusal
 retractAnswer [] = Err NothingToRetract
@@ -49,7 +58,7 @@ module _ {K : Type 0} (same : K → K → Bool) where
 
   -- the log after a record: one access more, unless it was refused
   abbrev pub recordLog : ℕ → K → List K → List K
-  recordLog places k log = cond (ltb (length log) mostAccesses) (cond (admits places k log) (k ∷ log) log) log
+  recordLog places k log = unlessRefused (recordAnswer places k log) k log
 
   -- the log after a call
   abbrev pub callLog : ℕ → Call K → List K → List K
@@ -68,11 +77,7 @@ module _ {K : Type 0} (same : K → K → Bool) where
 
   -- footprint: a window no longer than the burst; then the total and the number of windows
   abbrev pub footprintAnswer : ℕ → List K → Result (ℕ × ℕ) Refusal
-  footprintAnswer w log = cond (leb w (length log)) (Ok (total same w log, length (windows same w log))) (Err WindowTooLong)
-
-  -- t is a position of the log
-  abbrev pub isPosition : ℕ → List K → Bool
-  isPosition t log = leb 1 t && leb t (length log)
+  footprintAnswer w log = cond (leb w (length log)) (Ok (total same w log, length (windows w log))) (Err WindowTooLong)
 
   -- interval, and distance: a position from 1 to n; then what it has there, none at a first access
   abbrev pub intervalAnswer : ℕ → List K → Result (Option ℕ) Refusal

@@ -1,7 +1,7 @@
 -- A burst's accesses: windows and footprints, intervals and distances, and the counts of them.
 -- A log is the list of the standing keys, newest first: recording puts a key in front, and position t, counted
 -- from 1 at the oldest access, is the head of the part that has length t. `past` is a log before its next access.
--- Keys are compared by the sameness of their kind. specs/ByPosition.antt says it all once more, oldest first.
+-- Keys are compared by the sameness of their kind. specs/ByPosition.antt says the same by position, oldest first.
 use mathlib.Core.Bool.{Bool, false, cond, _||_}
 use mathlib.Core.List.{List, [], _∷_, _++_, map}
 use Prim.Native.Nat.{ℕ, suc, _+_, _-_}
@@ -16,6 +16,19 @@ abbrev pub listed : Option ℕ → List ℕ
 listed None = []
 listed (Some x) = x ∷ []
 
+-- the window of length w that ends at the newest access, if the log is long enough
+abbrev pub newestWindow : {K : Type 0} → ℕ → List K → List (List K)
+newestWindow w log = cond (leb w (length log)) (take w log ∷ []) []
+
+-- every window of length w: one for each position that it can end at, and at length 0 one before the first
+abbrev pub windows : {K : Type 0} → ℕ → List K → List (List K)
+windows w [] = newestWindow w []
+windows w (k ∷ past) = newestWindow w (k ∷ past) ++ windows w past
+
+-- the log as it was when position t was its newest access
+abbrev pub upTo : {K : Type 0} → ℕ → List K → List K
+upTo t log = drop (length log - t) log
+
 module _ {K : Type 0} (same : K → K → Bool) where
   -- a key is held: a same one stands in the list
   abbrev pub held : K → List K → Bool
@@ -26,15 +39,6 @@ module _ {K : Type 0} (same : K → K → Bool) where
   abbrev pub distinct : List K → ℕ
   distinct [] = 0
   distinct (x ∷ xs) = cond (held x xs) 0 1 + distinct xs
-
-  -- the window of length w that ends at the newest access, if the log is long enough
-  abbrev pub newestWindow : ℕ → List K → List (List K)
-  newestWindow w log = cond (leb w (length log)) (take w log ∷ []) []
-
-  -- every window of length w: one for each position that it can end at, and at length 0 one before the first
-  abbrev pub windows : ℕ → List K → List (List K)
-  windows w [] = newestWindow w []
-  windows w (k ∷ past) = newestWindow w (k ∷ past) ++ windows w past
 
   -- the footprint total: the different keys of each window, counted afresh, added up
   abbrev pub total : ℕ → List K → ℕ
@@ -56,10 +60,6 @@ module _ {K : Type 0} (same : K → K → Bool) where
   -- its distance: the different keys from the former position up to the newest, its own key among them
   abbrev pub distance : K → List K → Option ℕ
   distance k past = cond (held k past) (Some (distinct (take (back k past) past))) None
-
-  -- the log as it was when position t was its newest access
-  abbrev pub upTo : ℕ → List K → List K
-  upTo t log = drop (length log - t) log
 
   -- interval and distance of the newest access of a log
   abbrev pub newestInterval : List K → Option ℕ

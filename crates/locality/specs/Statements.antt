@@ -1,7 +1,7 @@
 -- The theorems, each a statement about every log of a key kind, told by its sameness.
 use mathlib.Core.Path.{_≡_}
 use mathlib.Core.Bool.{Bool, true}
-use mathlib.Core.List.{List, _∷_, reverse}
+use mathlib.Core.List.{List, [], _∷_, reverse}
 use mathlib.Core.Logic.{_↔_}
 use Prim.Native.Nat.{ℕ, suc, _+_, _-_, _*_, _≤_}
 use lib.ListN.{length}
@@ -9,13 +9,16 @@ use Rattle.std.specs.Options.{mapped}
 use Rattle.std.specs.shelf.Lists.{All}
 use Rattle.std.specs.declared.option.Option.{Option}
 use Rattle.std.specs.declared.option.Option.the-variants.{Some}
+use Rattle.std.specs.declared.result.Result.the-variants.{Ok}
+use Rattle.locality.specs.declared.call.Call.{Call}
 use Rattle.locality.specs.declared.entry.Entry.{Entry}
 use Rattle.locality.specs.Numbers.{countAbove, sumAbove}
-use Rattle.locality.specs.Log.{held, distinct, windows, total, former, interval, distance, depthCount, lasts, gapCount}
+use Rattle.locality.specs.Log.{held, distinct, windows, total, former, interval, distance, reuseCount, depthCount, lasts, gapCount}
 use Rattle.locality.specs.Recency.{keys, timesOf, stored, found, touched, recent, putBack, formerTime, Orderly}
 use Rattle.locality.specs.Cache.{misses}
 use Rattle.locality.specs.Tables.{totalOfTable, missesOfTable, TableOf, Tallies}
-use Rattle.locality.specs.ByPosition.{Textbook}
+use Rattle.locality.specs.Calls.{accessLog, FillAnswer}
+use Rattle.locality.specs.ByPosition.{standingAfter, Textbook}
 
 -- what the gaps above w take from m × (n − w + 1): the sum of (i − w) × gap count i over the entries i above w
 unfoldable pub gapSum : {K : Type 0} → (K → K → Bool) → ℕ → List K → ℕ
@@ -26,7 +29,7 @@ abbrev pub TotalsFromGaps : {K : Type 0} → (K → K → Bool) → Type 0
 TotalsFromGaps {K} same =
     (log : List K) (w : ℕ) → w ≤ length log →
     (total same w log ≡ distinct same log * (length log - w + 1) - gapSum same w log)
-    × (length (windows same w log) ≡ length log - w + 1)
+    × (length (windows w log) ≡ length log - w + 1)
     × (gapSum same w log ≤ distinct same log * (length log - w + 1))
 
 -- an LRU cache of c places misses once for each different key, and at each distance above c
@@ -76,9 +79,20 @@ abbrev pub DepthFromTimes : {K : Type 0} → (K → K → Bool) → Type 0
 DepthFromTimes {K} same =
     (k : K) (es : List (Entry K)) (d t : ℕ) → Orderly same es → found same k es ≡ Some (d, t) → d ≡ countAbove t (timesOf es) + 1
 
--- every definition in use is the textbook's
+-- every definition in use is the textbook's, and so is the access log of any calls
 abbrev pub TextbookAgrees : {K : Type 0} → (K → K → Bool) → Type 0
-TextbookAgrees {K} same = (log : List K) → Textbook same log
+TextbookAgrees {K} same =
+    ((log : List K) → Textbook same log)
+    × ((places : ℕ) (calls : List (Call K)) → reverse (accessLog same places calls) ≡ standingAfter same places calls [])
+
+-- every size up to the number of keys is filled: by the whole burst, if by no shorter length
+abbrev pub WholeBurstFills : {K : Type 0} → (K → K → Bool) → Type 0
+WholeBurstFills {K} same = (log : List K) (c : ℕ) → c ≤ distinct same log → FillAnswer same c log (Ok (length log))
+
+-- no gap, interval or distance is 0
+abbrev pub EntryZeroIsEmpty : {K : Type 0} → (K → K → Bool) → Type 0
+EntryZeroIsEmpty {K} same =
+    (log : List K) → (gapCount same 0 log ≡ 0) × (reuseCount same 0 log ≡ 0) × (depthCount same 0 log ≡ 0)
 
 -- what the total worked out of a gap table is: the formula of every log; on this table its answer; and for every log
 -- that the table and the number of keys are those of, the total counted afresh

@@ -4,7 +4,7 @@ use mathlib.Core.Bool.{Bool, true, false}
 use mathlib.Core.List.{List, [], _∷_, map, reverse}
 use Prim.Native.Nat.{ℕ, suc}
 use lib.Dec.{eqb}
-use lib.ListN.{length}
+use lib.ListN.{length, replicate}
 use Rattle.std.specs.Iters.{counting}
 use Rattle.std.specs.shelf.Lists.{All}
 use Rattle.std.specs.declared.option.Option.{Option}
@@ -19,7 +19,7 @@ use Rattle.locality.specs.declared.call.Call.{Call}
 use Rattle.locality.specs.declared.call.Call.the-variants.{Record, Retract, Clear}
 use Rattle.locality.specs.Log.{windows, total, distinct, gapCount}
 use Rattle.locality.specs.Cache.{misses}
-use Rattle.locality.specs.Calls.{mostAccesses, accessLog, recordAnswer, FillAnswer}
+use Rattle.locality.specs.Calls.{mostAccesses, accessLog, recordAnswer, retractAnswer, footprintAnswer, gapAnswer, intervalAnswer, distanceAnswer, FillAnswer}
 
 -- a worked case, with what is stated of it
 pub data Row : Type 0 where
@@ -27,6 +27,16 @@ pub data Row : Type 0 where
   measured : List ℕ → List ℕ → List ℕ → List ℕ → List ℕ → Row
   -- a number of places; calls on a new burst; a key; what a record of it then answers, a refusal by its number
   recorded : ℕ → List (Call ℕ) → ℕ → Result (Option (ℕ × ℕ)) ℕ → Row
+  -- a number of places; a key that stands so often, alone; another key; what a record of it answers
+  crowded : ℕ → ℕ → ℕ → ℕ → Result (Option (ℕ × ℕ)) ℕ → Row
+  -- calls on a new burst; what a retract then answers
+  retracted : List (Call ℕ) → Result (Unit {0}) ℕ → Row
+  -- accesses; a length; what footprint answers: total and windows
+  footprinted : List ℕ → ℕ → Result (ℕ × ℕ) ℕ → Row
+  -- accesses; an entry; what gap answers
+  gapped : List ℕ → ℕ → Result ℕ ℕ → Row
+  -- accesses; a position; what interval and distance answer
+  placed : List ℕ → ℕ → Result (Option ℕ) ℕ → Result (Option ℕ) ℕ → Row
   -- accesses; a size; the lengths that fill it; the lengths up to n that do not
   filled : List ℕ → ℕ → List ℕ → List ℕ → Row
   -- accesses; a size that fill refuses; the refusal's number
@@ -47,10 +57,17 @@ numbered (Err e) = Err (numberOf e)
 abbrev pub Holds : Row → Type 0
 Holds (measured accesses totals counts gaps missed) =
     (valuesTo (λ w. total eqb w (reverse accesses)) (length accesses) ≡ totals)
-    × (valuesTo (λ w. length (windows eqb w (reverse accesses))) (length accesses) ≡ counts)
+    × (valuesTo (λ w. length (windows w (reverse accesses))) (length accesses) ≡ counts)
     × (valuesTo (λ i. gapCount eqb i (reverse accesses)) (length accesses) ≡ gaps)
     × (valuesTo (λ c. misses eqb c (reverse accesses)) (distinct eqb (reverse accesses)) ≡ missed)
 Holds (recorded places calls k answer) = numbered (recordAnswer eqb places k (accessLog eqb places calls)) ≡ answer
+Holds (crowded places k times key answer) = numbered (recordAnswer eqb places key (replicate times k)) ≡ answer
+Holds (retracted calls answer) = numbered (retractAnswer (accessLog eqb mostAccesses calls)) ≡ answer
+Holds (footprinted accesses w answer) = numbered (footprintAnswer eqb w (reverse accesses)) ≡ answer
+Holds (gapped accesses i answer) = numbered (gapAnswer eqb i (reverse accesses)) ≡ answer
+Holds (placed accesses t interval distance) =
+    (numbered (intervalAnswer eqb t (reverse accesses)) ≡ interval)
+    × (numbered (distanceAnswer eqb t (reverse accesses)) ≡ distance)
 Holds (filled accesses c lengths others) =
     All (λ w. FillAnswer eqb c (reverse accesses) (Ok w)) lengths
     × All (λ w. FillAnswer eqb c (reverse accesses) (Ok w) → ⊥) others
@@ -87,6 +104,25 @@ rows =
     ∷ recorded 1 [] a (Ok None)
     ∷ recorded 1 (Record a ∷ []) b (Err 2)
     ∷ recorded 1 (Record a ∷ Record b ∷ []) a (Ok (Some (1, 1)))
+    ∷ recorded mostAccesses (Record a ∷ Record b ∷ Retract ∷ []) b (Ok None)
+    ∷ recorded mostAccesses (Record a ∷ Record b ∷ Retract ∷ []) a (Ok (Some (1, 1)))
+    ∷ recorded mostAccesses (Record a ∷ Clear ∷ []) a (Ok None)
+    ∷ recorded 0 [] a (Err 2)
+    ∷ crowded 1 a 4095 a (Ok (Some (1, 1)))
+    ∷ crowded 1 a 4095 b (Err 2)
+    ∷ crowded 1 a 4096 a (Err 1)
+    ∷ crowded 1 a 4096 b (Err 1)
+    ∷ retracted [] (Err 3)
+    ∷ retracted (Record a ∷ Retract ∷ []) (Err 3)
+    ∷ retracted (Record a ∷ []) (Ok tt)
+    ∷ footprinted (a ∷ b ∷ b ∷ b ∷ []) 4 (Ok (2, 1))
+    ∷ footprinted (a ∷ b ∷ b ∷ b ∷ []) 5 (Err 4)
+    ∷ gapped (a ∷ b ∷ b ∷ b ∷ []) 4 (Ok 1)
+    ∷ gapped (a ∷ b ∷ b ∷ b ∷ []) 5 (Err 6)
+    ∷ placed (a ∷ b ∷ a ∷ []) 0 (Err 5) (Err 5)
+    ∷ placed (a ∷ b ∷ a ∷ []) 2 (Ok None) (Ok None)
+    ∷ placed (a ∷ b ∷ a ∷ []) 3 (Ok (Some 2)) (Ok (Some 2))
+    ∷ placed (a ∷ b ∷ a ∷ []) 4 (Err 5) (Err 5)
     ∷ filled (a ∷ b ∷ c ∷ c ∷ b ∷ a ∷ []) 2 (3 ∷ 4 ∷ 5 ∷ 6 ∷ []) (0 ∷ 1 ∷ 2 ∷ [])
     ∷ unfilled (a ∷ b ∷ c ∷ c ∷ b ∷ a ∷ []) 4 8
     ∷ lined 64 127 true

@@ -1,7 +1,7 @@
 // The theorems, each the contract of a function named after what it says, over every lawful key kind.
 // Where a computation goes with a theorem, the function makes it; the others have nothing to answer.
 ghost use mathlib.Core.List.{List};
-ghost use Rattle.locality.specs.Statements.{TotalFromTable, MissesFromTable, TablesTellTotals, NextFromRecency, RecencyList, PutBackUndoes, DepthFromTimes, TextbookAgrees};
+ghost use Rattle.locality.specs.Statements.{TotalFromTable, MissesFromTable, TablesTellTotals, NextFromRecency, RecencyList, PutBackUndoes, DepthFromTimes, WholeBurstFills, EntryZeroIsEmpty, TextbookAgrees};
 ghost use Rattle.locality.specs.Worked.{WorkedBursts};
 use crate::tables::same_tables;
 use crate::tables::table_misses;
@@ -9,8 +9,8 @@ use crate::tables::table_total;
 use keys::Key;
 
 // The footprint total of a window length, from a gap table and the number of different keys, visiting no window.
-// None where the table has no entry or more than 4,097, where the window is longer than the burst, and where the table
-// is no burst's, so that the sum of its gaps is too large.
+// None where the table has no entry or more than 4,097, where the window is longer than the burst, and where the sum of
+// the gaps is larger than keys × windows, which no burst's table has.
 pub fn total_from_gaps<K: Key>(gaps: &[u32], keys: u32, window: u32) -> Option<u64>
     ensures { λ r. ⌜ TotalFromTable same (now (gaps .entry)) keys window r ⌝ }
 {
@@ -52,7 +52,17 @@ pub fn depth_from_later_times<K: Key>()
     ensures { λ _. ⌜ DepthFromTimes same ⌝ }
 {}
 
-// Every definition in use is the textbook's, by position and oldest first.
+// Every size up to the number of keys has a window length that fills it.
+pub fn whole_burst_fills<K: Key>()
+    ensures { λ _. ⌜ WholeBurstFills same ⌝ }
+{}
+
+// Entry 0 of every table of counts is 0.
+pub fn entry_zero_is_empty<K: Key>()
+    ensures { λ _. ⌜ EntryZeroIsEmpty same ⌝ }
+{}
+
+// Every definition in use is the textbook's, by position and oldest first, and so is the access log of any calls.
 pub fn textbook_agrees<K: Key>()
     ensures { λ _. ⌜ TextbookAgrees same ⌝ }
 {}

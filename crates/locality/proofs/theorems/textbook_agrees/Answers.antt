@@ -1,5 +1,5 @@
-use Rattle.locality.proofs.Positions.{textbook}
+use Rattle.locality.proofs.Positions.{agrees}
 use Rattle.locality.proofs.theorems.textbook_agrees.Needs as need
 
 pub returns : need.returns
-returns g c = textbook (g .K·Key·met .lawful)
+returns g c = agrees (g .K·Key·met .lawful)
