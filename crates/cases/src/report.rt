@@ -1,13 +1,10 @@
 // The text that answers a line: what its burst measures, or what is wrong with it.
 ghost use mathlib.Core.Path.{_≡_};
-ghost use mathlib.Core.List.{List, _++_, map, reverse};
+ghost use mathlib.Core.List.{_++_, reverse};
 ghost use Prim.Native.Nat.{_+_, _≤_};
 ghost use lib.ListN.{length};
 ghost use Rattle.std.specs.Of.String.{string-bytes};
 ghost use Rattle.std.specs.Vec.{made};
-ghost use Rattle.std.specs.shelf.Lists.{leading};
-ghost use Rattle.std.specs.Text.{asciiLetter};
-ghost use Rattle.cases.specs.Letters.{asLetter};
 ghost use Rattle.cases.specs.Texts.{quoted, cellText, labelOf, rowText, rowsText, headText, burstText, strayText, longText, answerText};
 use crate::curve::Curve;
 use crate::letters::LetterKey;

@@ -1,12 +1,11 @@
 -- A cache in the front of a slice. Assumes nothing.
-use mathlib.Core.Path.{_≡_, refl, sym, ap, ap₂, _∙_}
+use mathlib.Core.Path.{_≡_, sym, ap, ap₂, _∙_}
 use mathlib.Core.Logic.{⊎-elim}
 use mathlib.Core.List.{List, [], _∷_, _++_}
-use Prim.Native.Nat.{ℕ, zero, suc, min, _+_, _-_, _≤_, _<_}
-use native.Mathlib.Numerals.{add-one}
+use Prim.Native.Nat.{ℕ, min, _+_, _-_, _≤_, _<_}
 use native.Mathlib.Omega.{arith}
 use lib.ListN.{length, getD, take, drop}
-use Rattle.std.proofs.shelf.Lists.{append-assoc, length-append, length-take, length-take-le, take-all, take-take, take-at, drop-at, take-more, take-append-le, drop-append-le}
+use Rattle.std.proofs.shelf.Lists.{append-assoc, length-take, length-take-le, take-all, take-take, take-at, drop-at, take-more, take-append-le, drop-append-le}
 use Rattle.std.proofs.shelf.Tests.{cases-lt}
 
 module _ {X : Type 0} where

@@ -1,25 +1,24 @@
 -- The definitions on a slice of keys, the oldest access first. Assumes nothing.
 use mathlib.Core.Path.{_≡_, refl, sym, ap, ap₂, _∙_}
 use mathlib.Core.Logic.{⊎-elim}
-use mathlib.Core.Bool.{Bool, true, false, cond, not, _||_, _&&_, false≢true}
+use mathlib.Core.Bool.{Bool, true, false, cond, not, false≢true}
 use mathlib.Core.List.{List, [], _∷_, _++_, map, reverse}
 use Prim.Native.Nat.{ℕ, zero, suc, _+_, _-_, _≤_, _<_}
 use native.Mathlib.Numerals.{add-one}
 use native.Mathlib.Omega.{arith}
-use lib.Dec.{eqb, leb, ltb}
+use lib.Dec.{eqb, ltb}
 use lib.ListN.{length, getD, take, drop}
 use Rattle.std.proofs.shelf.Lists.{reverse-reverse, length-reverse, length-take, take-more}
 use Rattle.std.proofs.shelf.Maps.{nth-read}
 use Rattle.std.proofs.shelf.Tests.{cases-bool}
 use Rattle.std.specs.shelf.Lists.{leading, kept-by}
-use Rattle.std.specs.declared.option.Option.{Option}
 use Rattle.std.specs.declared.option.Option.the-variants.{Some, None}
 use Rattle.keys.specs.Sameness.{Lawful}
 use Rattle.locality.proofs.Sums.{sumOver-append, sumOver-map, sumOver-each, sumOver-add}
-use Rattle.locality.proofs.Sameness.{distinct-push, distinct-reverse}
+use Rattle.locality.proofs.Sameness.{distinct-push}
 use Rattle.locality.proofs.Positions.{positions-more, textbook, cache-more, misses-more}
 use Rattle.locality.specs.Numbers.{sumOver, isNumber, times}
-use Rattle.locality.specs.Log.{listed, held, distinct, windows, total, intervalAt, distanceAt, gapCount}
+use Rattle.locality.specs.Log.{listed, held, distinct, total, intervalAt, distanceAt, gapCount}
 use Rattle.locality.specs.Recency.{stored, without}
 use Rattle.locality.specs.Cache.{accessed, cache, misses}
 use Rattle.locality.specs.ByPosition.{keyAt, positions, greatest, window, windowsByStart, alike, sameAt, formerOf, intervalOf, distanceOf, firstPositions, lastPositions, positionsWith, cacheFrom, missesFrom}

@@ -1,5 +1,5 @@
 // Counts afresh, over a slice of keys with the oldest access first: every window, every cache and every interval.
-// Slow on purpose and plain, each function is the definition run as it stands: what faster code is compared with.
+// Slow on purpose and plain, and proved equal to the definitions: what faster code is compared with.
 mod finds;
 pub mod gaps;
 pub mod looks;

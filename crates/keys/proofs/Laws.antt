@@ -1,12 +1,9 @@
 -- The laws of sameness: over any block size, and of objects. Assumes nothing.
-use mathlib.Core.Path.{_≡_}
-use mathlib.Core.Bool.{Bool, true}
 use Prim.Native.Nat.{ℕ}
 use native.Mathlib.Omega.{arith}
 use Rattle.keys.specs.Sameness.{Lawful}
 use Rattle.keys.specs.Blocks.{oneBlock}
 use Rattle.keys.specs.Objects.{oneObject}
-use Rattle.keys.specs.declared.object.Object.{Object}
 
 -- a kind whose keys have byte addresses and are the same within one block, of whatever size
 pub in-blocks : {K : Type 0} (size : ℕ) (address : K → ℕ) → Lawful (λ (x y : K). oneBlock size (address x) (address y))

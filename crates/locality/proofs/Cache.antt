@@ -2,25 +2,24 @@
 use mathlib.Core.Path.{_≡_, refl, sym, ap, ap₂, _∙_, subst}
 use mathlib.Core.Logic.{⊎-elim}
 use mathlib.Core.Bool.{Bool, true, false, cond, _||_, _&&_, false≢true}
-use mathlib.Core.List.{List, [], _∷_, _++_}
-use Prim.Native.Nat.{ℕ, zero, suc, _+_, _-_, _≤_, _<_}
+use mathlib.Core.List.{List, [], _∷_}
+use Prim.Native.Nat.{ℕ, zero, suc, _+_, _-_, _≤_}
 use native.Mathlib.Omega.{arith}
-use lib.Dec.{leb, ltb}
+use lib.Dec.{leb}
 use lib.ListN.{length, take}
 use lib.Seq.{take-take}
 use Rattle.std.proofs.shelf.Tests.{cases-bool}
 use Rattle.std.proofs.shelf.Elements.{all-weaker}
 use Rattle.std.specs.shelf.Lists.{All, Each}
-use Rattle.std.specs.declared.option.Option.{Option}
-use Rattle.std.specs.declared.option.Option.the-variants.{Some, None}
+use Rattle.std.specs.declared.option.Option.the-variants.{Some}
 use Rattle.keys.specs.Sameness.{Lawful}
 use Rattle.locality.proofs.Sums.{countAbove-table}
-use Rattle.locality.proofs.Sameness.{flip, left, right, held-same, stored-same, keys-others, held-without}
+use Rattle.locality.proofs.Sameness.{flip, right, stored-same, keys-others}
 use Rattle.locality.proofs.Reuse.{since, take-back, distance-since}
-use Rattle.locality.proofs.Recency.{depthOf, timeOf, found-is, held-recent, time-former}
+use Rattle.locality.proofs.Recency.{depthOf, found-is, held-recent, time-former}
 use Rattle.locality.specs.Numbers.{countAbove}
-use Rattle.locality.specs.Log.{held, distinct, former, distances, firsts}
-use Rattle.locality.specs.Recency.{without, stored, keys, found, recent}
+use Rattle.locality.specs.Log.{held, distinct, distances, firsts}
+use Rattle.locality.specs.Recency.{without, stored, keys, recent}
 use Rattle.locality.specs.Cache.{cache, misses}
 use Rattle.locality.specs.Statements.{MissesFromDepths, NextFromRecency}
 

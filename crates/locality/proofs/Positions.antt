@@ -9,7 +9,7 @@ use lib.Dec.{eqb, leb, ltb}
 use lib.ListN.{length, take, drop}
 use Rattle.std.proofs.shelf.Counted.{map-counting-more}
 use Rattle.std.proofs.shelf.Elements.{kept-by-append}
-use Rattle.std.proofs.shelf.Lists.{append-nil, reverse-append, length-reverse, length-append, length-take, length-drop, take-all, take-at, take-append-le, drop-append-le, drop-at, take-append-drop, map-append}
+use Rattle.std.proofs.shelf.Lists.{append-nil, reverse-append, length-reverse, length-take, length-drop, take-all, take-at, take-append-le, drop-append-le, drop-at, take-append-drop}
 use Rattle.std.proofs.shelf.Tests.{cases-bool, cases-lt}
 use Rattle.std.specs.Iters.{counting}
 use Rattle.std.specs.shelf.Lists.{kept-by}
@@ -21,7 +21,7 @@ use Rattle.locality.proofs.Sums.{sumOver-append, sumOver-map, sumOver-each}
 use Rattle.locality.proofs.Sameness.{held-reverse, distinct-reverse}
 use Rattle.locality.proofs.Reuse.{former-le, former-held, former-absent}
 use Rattle.locality.specs.Numbers.{sumOver, isNumber, times}
-use Rattle.locality.specs.Log.{listed, held, distinct, windows, total, former, back, interval, distance, upTo, newestInterval, newestDistance, intervalAt, distanceAt, intervals, distances, firsts, lastsBefore, lasts}
+use Rattle.locality.specs.Log.{listed, held, distinct, windows, total, former, back, interval, distance, upTo, newestInterval, newestDistance, intervals, distances, firsts, lastsBefore, lasts}
 use Rattle.locality.specs.Recency.{touched, recent}
 use Rattle.locality.specs.Cache.{accessed, cache, misses}
 use Rattle.locality.specs.Calls.{recordLog, retractLog, logAfter}

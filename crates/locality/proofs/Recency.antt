@@ -1,9 +1,9 @@
 -- The recency list of a log: its keys and times, its order, and what a put back does to it. Assumes nothing.
 use mathlib.Core.Path.{_≡_, refl, sym, ap, _∙_, subst}
 use mathlib.Core.Logic.{⊎-elim}
-use mathlib.Core.Bool.{Bool, true, false, cond, _||_, false≢true}
-use mathlib.Core.List.{List, [], _∷_, _++_, map, reverse}
-use Prim.Native.Nat.{ℕ, zero, suc, _+_, _-_, _≤_, _<_}
+use mathlib.Core.Bool.{Bool, true, false, cond, false≢true}
+use mathlib.Core.List.{List, [], _∷_, _++_, reverse}
+use Prim.Native.Nat.{ℕ, suc, _+_, _-_, _≤_, _<_}
 use native.Mathlib.Omega.{arith}
 use lib.Dec.{eqb, ltb}
 use lib.ListN.{length}
@@ -11,15 +11,13 @@ use Rattle.std.proofs.shelf.Lists.{reverse-append}
 use Rattle.std.proofs.shelf.Tests.{cases-bool}
 use Rattle.std.proofs.shelf.Elements.{all-weaker}
 use Rattle.std.specs.shelf.Lists.{All}
-use Rattle.std.specs.declared.option.Option.{Option}
 use Rattle.std.specs.declared.option.Option.the-variants.{Some, None}
 use Rattle.keys.specs.Sameness.{Lawful}
 use Rattle.locality.proofs.Sums.{sumOver-none, sumOver-map}
-use Rattle.locality.proofs.Sameness.{all-without, all-both, flip, left, right, held-same, held-append, held-reverse, stored-same, stored-absent, stored-all, stored-append, held-without, others-absent, keys-others}
-use Rattle.locality.proofs.Reuse.{former-le, former-held, former-absent}
-use Rattle.locality.specs.Numbers.{sumOver, countAbove}
+use Rattle.locality.proofs.Sameness.{all-without, all-both, flip, left, right, held-same, held-reverse, stored-same, stored-absent, stored-all, stored-append, held-without, others-absent, keys-others}
+use Rattle.locality.specs.Numbers.{sumOver}
 use Rattle.locality.specs.Log.{held, distinct, former, lastsBefore, lasts}
-use Rattle.locality.specs.Recency.{atTime, keys, timesOf, without, placed, putBack, Falling, Apart, Orderly, formerTime, deeper, stored, found, others, touched, recent}
+use Rattle.locality.specs.Recency.{atTime, keys, timesOf, without, placed, putBack, Falling, Apart, Orderly, formerTime, stored, found, others, touched, recent}
 use Rattle.locality.specs.Statements.{RecencyList, PutBackUndoes, DepthFromTimes}
 use Rattle.locality.specs.declared.entry.Entry.{Entry}
 

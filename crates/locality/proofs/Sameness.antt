@@ -3,14 +3,14 @@ use mathlib.Core.Path.{_≡_, refl, sym, ap, ap₂, _∙_}
 use mathlib.Core.Logic.{⊎-elim}
 use mathlib.Core.Bool.{Bool, true, false, cond, _||_, false≢true}
 use mathlib.Core.List.{List, [], _∷_, _++_, reverse}
-use Prim.Native.Nat.{ℕ, _+_}
+use Prim.Native.Nat.{_+_}
 use native.Mathlib.Omega.{arith}
 use Rattle.std.proofs.shelf.Lists.{reverse-append}
 use Rattle.std.proofs.shelf.Tests.{cases-bool}
 use Rattle.std.specs.shelf.Lists.{All}
 use Rattle.keys.specs.Sameness.{Lawful}
 use Rattle.locality.specs.Log.{held, distinct}
-use Rattle.locality.specs.Recency.{firstWhere, without, stored, keys, others}
+use Rattle.locality.specs.Recency.{without, stored, keys, others}
 use Rattle.locality.specs.declared.entry.Entry.{Entry}
 
 pub same-test : (p q : Bool) → (p ≡ true → q ≡ true) → (q ≡ true → p ≡ true) → p ≡ q

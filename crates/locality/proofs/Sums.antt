@@ -1,12 +1,11 @@
 -- Sums over lists, and over the entries of a table. Assumes nothing.
-use mathlib.Core.Path.{_≡_, refl, sym, ap, ap₂, _∙_}
+use mathlib.Core.Path.{_≡_, refl, ap, ap₂, _∙_}
 use mathlib.Core.Logic.{⊎-elim}
-use mathlib.Core.Bool.{Bool, true, false, cond}
+use mathlib.Core.Bool.{cond}
 use mathlib.Core.List.{List, [], _∷_, _++_, map}
 use Prim.Native.Nat.{ℕ, zero, suc, _+_, _-_, _*_, _≤_, _<_}
 use native.Mathlib.Omega.{arith}
-use lib.Dec.{eqb, leb, ltb}
-use lib.ListN.{length}
+use lib.Dec.{ltb}
 use Rattle.std.proofs.shelf.Tests.{cases-lt}
 use Rattle.std.specs.shelf.Lists.{All}
 use Rattle.locality.specs.Numbers.{sumOver, isNumber, times, sumAbove, countAbove}

@@ -1,9 +1,9 @@
 -- The footprint totals from the gaps. Assumes nothing.
-use mathlib.Core.Path.{_≡_, refl, sym, ap, ap₂, _∙_, subst}
+use mathlib.Core.Path.{_≡_, refl, sym, ap, _∙_, subst}
 use mathlib.Core.Logic.{⊎-elim}
-use mathlib.Core.Bool.{Bool, true, false, cond, _||_, _&&_}
+use mathlib.Core.Bool.{Bool, true, false, cond}
 use mathlib.Core.List.{List, [], _∷_, _++_, map}
-use Prim.Native.Nat.{ℕ, zero, suc, _+_, _-_, _*_, _≤_, _<_}
+use Prim.Native.Nat.{ℕ, zero, suc, _+_, _-_, _*_, _≤_}
 use native.Mathlib.Omega.{arith}
 use lib.Dec.{leb}
 use lib.ListN.{length, take}
@@ -15,9 +15,9 @@ use Rattle.locality.proofs.Sums.{sumOver-none, sumOver-each, sumOver-append, s
 use Rattle.locality.proofs.Sameness.{all-without, others-absent}
 use Rattle.locality.proofs.Reuse.{former-le, former-held, held-take}
 use Rattle.locality.proofs.Recency.{timeOf, sum-others, length-others, held-recent, recent-times, recent-length, time-former, times-lasts}
-use Rattle.locality.specs.Numbers.{sumOver, isNumber, times, sumAbove}
+use Rattle.locality.specs.Numbers.{sumOver, isNumber, times}
 use Rattle.locality.specs.Log.{held, distinct, windows, total, intervals, firsts, lasts, lastGaps, gapCount}
-use Rattle.locality.specs.Recency.{others, recent, timesOf}
+use Rattle.locality.specs.Recency.{others, recent}
 use Rattle.locality.specs.Statements.{gapSum, TotalsFromGaps}
 use Rattle.locality.specs.declared.entry.Entry.{Entry}
 

@@ -1,4 +1,4 @@
-use mathlib.Core.Path.{_≡_, sym, ap, ap₂, _∙_}
+use mathlib.Core.Path.{sym, ap, ap₂, _∙_}
 use mathlib.Core.List.{_++_, [], _∷_, map}
 use lib.ListN.{take}
 use Rattle.std.specs.Of.String.{string-bytes}

@@ -1,6 +1,6 @@
-use mathlib.Core.Path.{_≡_, sym, ap, _∙_}
+use mathlib.Core.Path.{sym, ap, _∙_}
 use mathlib.Core.List.{_++_, [], _∷_, map}
-use lib.ListN.{getD, take}
+use lib.ListN.{getD}
 use Rattle.std.proofs.shelf.Lists.{map-more, take-all}
 use Rattle.cases.specs.Letters.{asLetter}
 use Rattle.cases.proofs.letters.keys_of.Needs as need

@@ -4,7 +4,7 @@ use Prim.Native.Nat.{_-_}
 use Rattle.std.specs.Iters.{counting}
 use Rattle.std.specs.Of.String.{string-bytes}
 use Rattle.std.specs.shelf.Lists.{joined}
-use Rattle.cases.specs.Texts.{cellText, labelOf}
+use Rattle.cases.specs.Texts.{cellText}
 use Rattle.cases.specs.Values.{valueOf, firstIndex}
 use Rattle.cases.proofs.report.add_row.Given as given
 

@@ -1,9 +1,9 @@
-use mathlib.Core.List.{List, _++_, reverse}
+use mathlib.Core.List.{List, reverse}
 use Prim.Native.Nat.{ℕ}
 use Rattle.std.specs.Of.String.{string-bytes}
 use Rattle.cases.specs.Texts.{rowText}
 use Rattle.cases.specs.declared.curve.Curve.{Curve}
-use Rattle.cases.specs.declared.curve.Curve.the-variants.{Totals, Windows, Gaps, Misses, Intervals, Distances}
+use Rattle.cases.specs.declared.curve.Curve.the-variants.{Totals, Windows, Gaps, Misses, Intervals}
 use Rattle.cases.proofs.Appends.{appended}
 use Rattle.cases.proofs.report.add_rows.Needs as need
 

@@ -1,9 +1,7 @@
-use mathlib.Core.Path.{_≡_, sym}
-use mathlib.Core.Bool.{true, _&&_}
-use mathlib.Core.List.{reverse}
+use mathlib.Core.Path.{_≡_}
+use mathlib.Core.Bool.{true}
 use native.Mathlib.Omega.{arith}
 use lib.Dec.{leb}
-use lib.ListN.{length}
 use Rattle.std.proofs.shelf.Lists.{length-reverse}
 use Rattle.counting.proofs.looks.is_position.Needs as need
 

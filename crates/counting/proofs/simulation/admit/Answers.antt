@@ -1,8 +1,8 @@
-use mathlib.Core.Path.{_≡_, sym, ap, _∙_}
-use mathlib.Core.List.{_∷_, _++_}
+use mathlib.Core.Path.{sym, ap, _∙_}
+use mathlib.Core.List.{_++_}
 use Prim.Native.Nat.{_+_, _≤_}
 use native.Mathlib.Omega.{arith}
-use lib.ListN.{length, set, take, drop}
+use lib.ListN.{length, set, drop}
 use Rattle.std.proofs.shelf.Lists.{length-take-le}
 use Rattle.counting.proofs.Memory.{cut}
 use Rattle.counting.proofs.simulation.admit.Needs as need

@@ -4,10 +4,8 @@ use Prim.Native.Nat.{_-_, _+_, _*_}
 use native.Mathlib.Omega.{arith}
 use lib.Dec.{leb}
 use lib.ListN.{length}
-use borrow.Author.Needs.{needs}
-use Rattle.std.specs.declared.option.Option.{Option}
-use Rattle.std.specs.declared.option.Option.the-variants.{Some, None}
-use Rattle.locality.specs.Tables.{isTable, lastEntry, difference, beyond, totalOfTable}
+use Rattle.std.specs.declared.option.Option.the-variants.{None}
+use Rattle.locality.specs.Tables.{isTable, lastEntry, difference, totalOfTable}
 use Rattle.locality.proofs.Totals.{footprints}
 use Rattle.locality.proofs.OfTables.{checked-difference, total-of}
 use Rattle.locality.proofs.tables.table_total.Needs as need
