@@ -69,7 +69,7 @@ module _ {K : Type 0} (same : K → K → Bool) where
   abbrev pub formerOf : List K → ℕ → ℕ
   formerOf xs t = greatest (sameAt xs t) (t - 1)
 
-  -- what x is told for a position that has a former one; a first position has nothing
+  -- x for a position that has a former one, nothing for a first position
   abbrev pub unlessFirst : List K → ℕ → ℕ → Option ℕ
   unlessFirst xs t x = cond (eqb (formerOf xs t) 0) None (Some x)
 
@@ -81,18 +81,20 @@ module _ {K : Type 0} (same : K → K → Bool) where
   abbrev pub distanceOf : List K → ℕ → Option ℕ
   distanceOf xs t = unlessFirst xs t (distinct same (window (t - formerOf xs t) (formerOf xs t) xs))
 
-  -- the positions without a former one, and those that no later position has the key of
+  -- the first positions: those without a former one
   abbrev pub firstPositions : List K → List ℕ
   firstPositions xs = kept-by (λ t. eqb (formerOf xs t) 0) (positions (length xs))
 
+  -- the last positions: those that are the greatest with their key
   abbrev pub lastPositions : List K → List ℕ
   lastPositions xs = kept-by (λ t. eqb (greatest (sameAt xs t) (length xs)) t) (positions (length xs))
 
-  -- a cache of c places that holds ks, stepped from the oldest access on: what it then holds, and its misses
+  -- a cache of c places that holds ks, stepped from the oldest access on: what it then holds
   abbrev pub cacheFrom : ℕ → List K → List K → List K
   cacheFrom c ks [] = ks
   cacheFrom c ks (k ∷ later) = cacheFrom c (accessed same c k ks) later
 
+  -- and its misses on the way
   abbrev pub missesFrom : ℕ → List K → List K → ℕ
   missesFrom c ks [] = 0
   missesFrom c ks (k ∷ later) = cond (held same k ks) 0 1 + missesFrom c (accessed same c k ks) later

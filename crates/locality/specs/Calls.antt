@@ -79,10 +79,11 @@ module _ {K : Type 0} (same : K → K → Bool) where
   abbrev pub footprintAnswer : ℕ → List K → Result (ℕ × ℕ) Refusal
   footprintAnswer w log = cond (leb w (length log)) (Ok (total same w log, length (windows w log))) (Err WindowTooLong)
 
-  -- interval, and distance: a position from 1 to n; then what it has there, none at a first access
+  -- interval: a position from 1 to n; then its interval, none at a first access
   abbrev pub intervalAnswer : ℕ → List K → Result (Option ℕ) Refusal
   intervalAnswer t log = cond (isPosition t log) (Ok (intervalAt same t log)) (Err NoSuchPosition)
 
+  -- distance: a position from 1 to n; then its distance, none at a first access
   abbrev pub distanceAnswer : ℕ → List K → Result (Option ℕ) Refusal
   distanceAnswer t log = cond (isPosition t log) (Ok (distanceAt same t log)) (Err NoSuchPosition)
 

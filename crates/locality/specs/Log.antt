@@ -61,19 +61,21 @@ module _ {K : Type 0} (same : K → K → Bool) where
   abbrev pub distance : K → List K → Option ℕ
   distance k past = cond (held k past) (Some (distinct (take (back k past) past))) None
 
-  -- interval and distance of the newest access of a log
+  -- the interval of the newest access of a log
   abbrev pub newestInterval : List K → Option ℕ
   newestInterval [] = None
   newestInterval (k ∷ past) = interval k past
 
+  -- the distance of the newest access of a log
   abbrev pub newestDistance : List K → Option ℕ
   newestDistance [] = None
   newestDistance (k ∷ past) = distance k past
 
-  -- interval and distance at position t
+  -- the interval at position t
   abbrev pub intervalAt : ℕ → List K → Option ℕ
   intervalAt t log = newestInterval (upTo t log)
 
+  -- the distance at position t
   abbrev pub distanceAt : ℕ → List K → Option ℕ
   distanceAt t log = newestDistance (upTo t log)
 
@@ -100,11 +102,12 @@ module _ {K : Type 0} (same : K → K → Bool) where
   firsts [] = []
   firsts (k ∷ past) = cond (held k past) [] (suc (length past) ∷ []) ++ firsts past
 
-  -- the last positions of the keys: those whose key no newer access has
+  -- the positions of a log whose key neither a newer access of it nor one of `newer` has
   abbrev pub lastsBefore : List K → List K → List ℕ
   lastsBefore newer [] = []
   lastsBefore newer (k ∷ past) = cond (held k newer) [] (suc (length past) ∷ []) ++ lastsBefore (k ∷ newer) past
 
+  -- the last positions of the keys: those whose key no newer access has
   abbrev pub lasts : List K → List ℕ
   lasts log = lastsBefore [] log
 
