@@ -8,7 +8,7 @@ use native.Mathlib.Numerals.{add-one}
 use native.Mathlib.Omega.{arith}
 use lib.Dec.{eqb, ltb}
 use lib.ListN.{length, getD, take, drop}
-use Rattle.std.proofs.shelf.Lists.{reverse-reverse, length-reverse, length-take, take-more}
+use Rattle.std.proofs.shelf.Lists.{reverse-reverse, length-reverse, length-take, map-id, take-more}
 use Rattle.std.proofs.shelf.Maps.{nth-read}
 use Rattle.std.proofs.shelf.Tests.{cases-bool}
 use Rattle.std.specs.shelf.Lists.{leading, kept-by}
@@ -45,13 +45,12 @@ key-read xs zero x l h e = absurd (omega arith)
 key-read xs (suc t) x l h e = nth-read xs (length xs) t x refl (omega arith) (e ∙ ap (λ i. getD xs i x) (omega arith))
 
 -- the positions that a filter keeps, counted one by one
-times-kept : (p : ℕ → Bool) (i : ℕ) (ts : List ℕ) → times i (kept-by p ts) ≡ sumOver (λ t. cond (p t) (isNumber i t) 0) ts
-times-kept p i [] = refl
-times-kept p i (t ∷ ts) = let r = times-kept p i ts in grind arith
-
 map-kept : (f : ℕ → ℕ) (p : ℕ → Bool) (i : ℕ) (ts : List ℕ) → times i (map f (kept-by p ts)) ≡ sumOver (λ t. cond (p t) (isNumber i (f t)) 0) ts
 map-kept f p i [] = refl
 map-kept f p i (t ∷ ts) = let r = map-kept f p i ts in grind arith
+
+times-kept : (p : ℕ → Bool) (i : ℕ) (ts : List ℕ) → times i (kept-by p ts) ≡ sumOver (λ t. cond (p t) (isNumber i t) 0) ts
+times-kept p i ts = ap (times i) (sym (map-id (kept-by p ts))) ∙ map-kept (λ t. t) p i ts
 
 module _ {K : Type 0} (same : K → K → Bool) where
   pub same-read : (xs : List K) (t p : ℕ) (x y : K) → 1 ≤ t → t ≤ length xs → x ≡ getD xs (t - 1) x → 1 ≤ p → p ≤ length xs → y ≡ getD xs (p - 1) y → sameAt same xs t p ≡ same x y

@@ -52,6 +52,13 @@ key-old : {X : Type 0} (xs ys : List X) (t : ℕ) → t ≤ length xs → keyAt 
 key-old xs ys zero h = refl
 key-old xs ys (suc t) h = nth-old xs ys t (omega arith)
 
+-- the key of the newest position, and of an earlier one
+key-newest : {X : Type 0} (k : X) (past : List X) → keyAt (reverse (k ∷ past)) (suc (length past)) ≡ Some k
+key-newest k past = ap₂ nth (reverse-more k past) (sym (length-reverse past)) ∙ nth-new (reverse past) k
+
+key-earlier : {X : Type 0} (k : X) (past : List X) (t : ℕ) → t ≤ length past → keyAt (reverse (k ∷ past)) t ≡ keyAt (reverse past) t
+key-earlier k past t h = ap (λ ys. keyAt ys t) (reverse-more k past) ∙ key-old (reverse past) (k ∷ []) t (omega (arith, length-reverse past))
+
 pub positions-more : (n : ℕ) → positions (suc n) ≡ positions n ++ (suc n ∷ [])
 positions-more n = from 1 n ∙ ap (λ t. positions n ++ (t ∷ [])) (omega arith)
   where
@@ -70,15 +77,14 @@ kept-same f g a (suc n) h =
     (λ (y : g a ≡ false). rw (e, y) r)
     (cases-bool (g a))
 
-sum-same : (f g : ℕ → ℕ) (a n : ℕ) → ((t : ℕ) → a ≤ t → t < a + n → f t ≡ g t) → sumOver f (counting a n) ≡ sumOver g (counting a n)
-sum-same f g a zero h = refl
-sum-same f g a (suc n) h =
-    ap₂ _+_ (h a (omega arith) (omega arith)) (sum-same f g (a + 1) n (λ t l u. h t (omega arith) (omega arith)))
-
 map-same : {X : Type 0} (f g : ℕ → X) (a n : ℕ) → ((t : ℕ) → a ≤ t → t < a + n → f t ≡ g t) → map f (counting a n) ≡ map g (counting a n)
 map-same f g a zero h = refl
 map-same f g a (suc n) h =
     ap₂ _∷_ (h a (omega arith) (omega arith)) (map-same f g (a + 1) n (λ t l u. h t (omega arith) (omega arith)))
+
+sum-same : (f g : ℕ → ℕ) (a n : ℕ) → ((t : ℕ) → a ≤ t → t < a + n → f t ≡ g t) → sumOver f (counting a n) ≡ sumOver g (counting a n)
+sum-same f g a n h =
+    sym (sumOver-map (λ x. x) f (counting a n)) ∙ ap (sumOver (λ x. x)) (map-same f g a n h) ∙ sumOver-map (λ x. x) g (counting a n)
 
 pub greatest-le : (f : ℕ → Bool) (n : ℕ) → greatest f n ≤ n
 greatest-le f zero = omega arith
@@ -121,21 +127,19 @@ module _ {K : Type 0} (same : K → K → Bool) where
   former-greatest k (x ∷ past) =
       let xs = reverse past in
       let n = length past in
-      let len : length xs ≡ n = length-reverse past in
-      let at : keyAt (reverse (x ∷ past)) (suc n) ≡ Some x = ap₂ nth (reverse-more x past) (sym len) ∙ nth-new xs x in
+      let at : keyAt (reverse (x ∷ past)) (suc n) ≡ Some x = key-newest x past in
       let r : greatest (λ p. alike same (Some k) (keyAt (reverse (x ∷ past)) p)) n ≡ former same k past
-      = greatest-same _ (λ p. alike same (Some k) (keyAt xs p)) n (λ p l. ap (alike same (Some k)) (ap (λ ys. keyAt ys p) (reverse-more x past) ∙ key-old xs (x ∷ []) p (omega arith))) ∙ former-greatest k past in
+      = greatest-same _ (λ p. alike same (Some k) (keyAt xs p)) n (λ p l. ap (alike same (Some k)) (key-earlier x past p l)) ∙ former-greatest k past in
       ap₂ (λ b g. cond (alike same (Some k) b) (suc n) g) at r
 
   former-new : (k : K) (past : List K) → formerOf same (reverse (k ∷ past)) (suc (length past)) ≡ former same k past
   former-new k past =
       let xs = reverse past in
       let n = length past in
-      let len : length xs ≡ n = length-reverse past in
-      let at : keyAt (reverse (k ∷ past)) (suc n) ≡ Some k = ap₂ nth (reverse-more k past) (sym len) ∙ nth-new xs k in
+      let at : keyAt (reverse (k ∷ past)) (suc n) ≡ Some k = key-newest k past in
       let one : suc n - 1 ≡ n = omega arith in
       ap (greatest (sameAt same (reverse (k ∷ past)) (suc n))) one
-      ∙ greatest-same _ (λ p. alike same (Some k) (keyAt xs p)) n (λ p l. ap₂ (alike same) at (ap (λ ys. keyAt ys p) (reverse-more k past) ∙ key-old xs (k ∷ []) p (omega arith)))
+      ∙ greatest-same _ (λ p. alike same (Some k) (keyAt xs p)) n (λ p l. ap₂ (alike same) at (key-earlier k past p l))
       ∙ former-greatest k past
 
   -- the log up to a position
@@ -381,8 +385,8 @@ module _ {K : Type 0} {same : K → K → Bool} (laws : Lawful same) where
       let key = key-some xs t l (omega arith) in
       let x = key .0 in
       let e : keyAt xs t ≡ Some x = key .1 in
-      let e′ : keyAt (reverse (k ∷ past)) t ≡ Some x = ap (λ ys. keyAt ys t) (reverse-more k past) ∙ key-old xs (k ∷ []) t (omega arith) ∙ e in
-      let at : keyAt (reverse (k ∷ past)) (suc n) ≡ Some k = ap₂ nth (reverse-more k past) (sym len) ∙ nth-new xs k in
+      let e′ : keyAt (reverse (k ∷ past)) t ≡ Some x = key-earlier k past t h ∙ e in
+      let at : keyAt (reverse (k ∷ past)) (suc n) ≡ Some k = key-newest k past in
       let g : greatest (sameAt same (reverse (k ∷ past)) t) n ≡ greatest (sameAt same xs t) n
       = greatest-same _ _ n (λ p a. ap (λ ys. sameAt same ys t p) (reverse-more k past) ∙ same-old same xs (k ∷ []) t p (omega arith) (omega arith)) in
       let new : sameAt same (reverse (k ∷ past)) t (suc n) ≡ same x k = ap₂ (alike same) e′ at in
@@ -403,7 +407,7 @@ module _ {K : Type 0} {same : K → K → Bool} (laws : Lawful same) where
       = kept-same p q 1 n (λ t a b. last-old newer past k t a (omega arith)) ∙ sym (last-before (k ∷ newer) past) in
       let more : kept-by p (positions (suc n)) ≡ kept-by p (positions n) ++ kept-by p (suc n ∷ [])
       = ap (kept-by p) (positions-more n) ∙ kept-by-append p (positions n) (suc n ∷ []) in
-      let at : keyAt (reverse (k ∷ past)) (suc n) ≡ Some k = ap₂ nth (reverse-more k past) (sym (length-reverse past)) ∙ nth-new (reverse past) k in
+      let at : keyAt (reverse (k ∷ past)) (suc n) ≡ Some k = key-newest k past in
       let self : sameAt same (reverse (k ∷ past)) (suc n) (suc n) ≡ true = ap₂ (alike same) at at ∙ laws .reflexive k in
       let top : greatest (sameAt same (reverse (k ∷ past)) (suc n)) (suc n) ≡ suc n = rw self in
       let equal : eqb (suc n) (suc n) ≡ true = grind arith in
@@ -470,7 +474,7 @@ module _ {K : Type 0} {same : K → K → Bool} (laws : Lawful same) where
       let lastGap : ℕ → ℕ = λ l. suc (length log) - l in
       record {
         appends = λ k. reverse-more k log;
-        position = by-position same newestKey keyAt refl (λ k past. sym (ap₂ nth (reverse-more k past) (sym (length-reverse past)) ∙ nth-new (reverse past) k)) (λ k past t h. ap (λ ys. keyAt ys t) (reverse-more k past) ∙ key-old (reverse past) (k ∷ []) t (omega (arith, length-reverse past))) log;
+        position = by-position same newestKey keyAt refl (λ k past. sym (key-newest k past)) key-earlier log;
         formerly = λ k. sym (former-new same k log);
         interval = by-position same (newestInterval same) (intervalOf same) refl (new-interval same) (old-interval same) log;
         distance = by-position same (newestDistance same) (distanceOf same) refl new-distance (old-distance same) log;
