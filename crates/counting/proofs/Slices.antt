@@ -8,7 +8,7 @@ use native.Mathlib.Numerals.{add-one}
 use native.Mathlib.Omega.{arith}
 use lib.Dec.{eqb, ltb}
 use lib.ListN.{length, getD, take, drop}
-use Rattle.std.proofs.shelf.Lists.{reverse-reverse, length-reverse, length-take, map-id, take-more}
+use Rattle.std.proofs.shelf.Lists.{reverse-reverse, length-reverse, length-take, length-take-le, map-id, take-more}
 use Rattle.std.proofs.shelf.Maps.{nth-read}
 use Rattle.std.proofs.shelf.Tests.{cases-bool}
 use Rattle.std.specs.shelf.Lists.{leading, kept-by}
@@ -23,6 +23,10 @@ use Rattle.locality.specs.Recency.{stored, without}
 use Rattle.locality.specs.Cache.{accessed, cache, misses}
 use Rattle.locality.specs.ByPosition.{keyAt, positions, greatest, window, windowsByStart, alike, sameAt, formerOf, intervalOf, distanceOf, firstPositions, lastPositions, positionsWith, cacheFrom, missesFrom}
 use Rattle.counting.specs.Shares.{shareOf}
+
+-- one element more of a slice, as it is read
+take-read : {X : Type 0} (xs : List X) (i : ℕ) (x : X) → i < length xs → x ≡ getD xs i x → take (i + 1) xs ≡ take i xs ++ (x ∷ [])
+take-read xs i x h e = take-more xs i x h ∙ ap (λ y. take i xs ++ (y ∷ [])) (sym e)
 
 -- one position more
 pub sum-more : (f : ℕ → ℕ) (n : ℕ) → sumOver f (positions (n + 1)) ≡ sumOver f (positions n) + f (n + 1)
@@ -60,6 +64,14 @@ module _ {K : Type 0} (same : K → K → Bool) where
   pub held-leading : (k : K) (xs : List K) → ltb (leading (λ x. not (same k x)) xs) (length xs) ≡ held same k xs
   held-leading k [] = refl
   held-leading k (x ∷ xs) = let r = held-leading k xs in grind arith
+
+  -- what a search of the first n elements finds
+  pub found-front : (k : K) (xs : List K) (n i : ℕ) → n ≤ length xs → i ≡ leading (λ x. not (same k x)) (take (n - 0) xs) →
+      (leading (λ x. not (same k x)) (take n xs) ≡ i) × (held same k (take n xs) ≡ ltb i n)
+  found-front k xs n i h e =
+      let z : n - 0 ≡ n = omega arith in
+      let f : leading (λ x. not (same k x)) (take n xs) ≡ i = sym (e ∙ ap (λ j. leading (λ x. not (same k x)) (take j xs)) z) in
+      (f, sym (held-leading k (take n xs)) ∙ ap₂ ltb f (length-take-le n xs h))
 
   -- the first same key, and the list without it
   stored-at : (k x : K) (ks : List K) (i : ℕ) → leading (λ y. not (same k y)) ks ≡ i → held same k ks ≡ true → x ≡ getD ks i x → x ≡ stored same k ks
@@ -117,30 +129,28 @@ module _ {K : Type 0} (same : K → K → Bool) where
 
   -- one access more
   pub cache-step : (c : ℕ) (xs : List K) (i : ℕ) (x : K) → i < length xs → x ≡ getD xs i x → cacheFrom same c [] (take (i + 1) xs) ≡ accessed same c x (cacheFrom same c [] (take i xs))
-  cache-step c xs i x h e = ap (cacheFrom same c []) (take-more xs i x h ∙ ap (λ y. take i xs ++ (y ∷ [])) (sym e)) ∙ cache-more same c [] (take i xs) x
+  cache-step c xs i x h e = ap (cacheFrom same c []) (take-read xs i x h e) ∙ cache-more same c [] (take i xs) x
 
   pub misses-step : (c : ℕ) (xs : List K) (i : ℕ) (x : K) → i < length xs → x ≡ getD xs i x → missesFrom same c [] (take (i + 1) xs) ≡ cond (held same x (cacheFrom same c [] (take i xs))) 0 1 + missesFrom same c [] (take i xs)
-  misses-step c xs i x h e = ap (missesFrom same c []) (take-more xs i x h ∙ ap (λ y. take i xs ++ (y ∷ [])) (sym e)) ∙ misses-more same c [] (take i xs) x
+  misses-step c xs i x h e = ap (missesFrom same c []) (take-read xs i x h e) ∙ misses-more same c [] (take i xs) x
 
 module _ {K : Type 0} {same : K → K → Bool} (laws : Lawful same) where
   -- one key more
   pub distinct-more : (xs : List K) (i : ℕ) (x : K) → i < length xs → x ≡ getD xs i x → distinct same (take (i + 1) xs) ≡ cond (held same x (take i xs)) 0 1 + distinct same (take i xs)
-  distinct-more xs i x h e = ap (distinct same) (take-more xs i x h ∙ ap (λ y. take i xs ++ (y ∷ [])) (sym e)) ∙ distinct-push laws x (take i xs)
+  distinct-more xs i x h e = ap (distinct same) (take-read xs i x h e) ∙ distinct-push laws x (take i xs)
 
-  interval-slice : (xs : List K) (t : ℕ) → t ≤ length xs → intervalAt same t (reverse xs) ≡ intervalOf same xs t
-  interval-slice xs t h = textbook laws (reverse xs) .interval t (omega (arith, length-reverse xs)) ∙ ap (λ ys. intervalOf same ys t) (reverse-reverse xs)
-
-  distance-slice : (xs : List K) (t : ℕ) → t ≤ length xs → distanceAt same t (reverse xs) ≡ distanceOf same xs t
-  distance-slice xs t h = textbook laws (reverse xs) .distance t (omega (arith, length-reverse xs)) ∙ ap (λ ys. distanceOf same ys t) (reverse-reverse xs)
-
-  -- the same with the former position f at hand
+  -- interval and distance of position t, with its former position f at hand
   pub interval-from : (xs : List K) (t f : ℕ) → t ≤ length xs → f ≡ formerOf same xs t →
       intervalAt same t (reverse xs) ≡ cond (eqb f 0) None (Some (t - f))
-  interval-from xs t f h e = interval-slice xs t h ∙ ap (λ p. cond (eqb p 0) None (Some (t - p))) (sym e)
+  interval-from xs t f h e =
+      textbook laws (reverse xs) .interval t (omega (arith, length-reverse xs)) ∙ ap (λ ys. intervalOf same ys t) (reverse-reverse xs)
+      ∙ ap (λ p. cond (eqb p 0) None (Some (t - p))) (sym e)
 
   pub distance-from : (xs : List K) (t f : ℕ) → t ≤ length xs → f ≡ formerOf same xs t →
       distanceAt same t (reverse xs) ≡ cond (eqb f 0) None (Some (distinct same (window (t - f) f xs)))
-  distance-from xs t f h e = distance-slice xs t h ∙ ap (λ p. cond (eqb p 0) None (Some (distinct same (window (t - p) p xs)))) (sym e)
+  distance-from xs t f h e =
+      textbook laws (reverse xs) .distance t (omega (arith, length-reverse xs)) ∙ ap (λ ys. distanceOf same ys t) (reverse-reverse xs)
+      ∙ ap (λ p. cond (eqb p 0) None (Some (distinct same (window (t - p) p xs)))) (sym e)
 
   pub total-slice : (w : ℕ) (xs : List K) → total same w (reverse xs) ≡ sumOver (λ s. distinct same (window w s xs)) (positions (suc (length xs) - w))
   total-slice w xs =

@@ -4,7 +4,8 @@ ghost use mathlib.Core.List.{_∷_, _++_, reverse};
 ghost use Prim.Native.Nat.{_+_, _≤_, _<_};
 ghost use lib.ListN.{length, getD, take, drop};
 ghost use Rattle.locality.specs.Log.{held};
-ghost use Rattle.locality.specs.Cache.{accessed, cache, misses};
+ghost use Rattle.locality.specs.Cache.{accessed, misses};
+ghost use Rattle.counting.specs.Memory.{memoryAfter};
 use crate::finds::find;
 use keys::Key;
 
@@ -12,7 +13,7 @@ use keys::Key;
 // it then holds the keys of the cache, the newest first, and behind them what it held before.
 pub fn lru_misses<K: Key>(keys: &[K], places: &mut [K]) -> usize
     ensures misses { λ r. ⌜ r ≡ misses same (length (now (places .entry))) (reverse (now (keys .entry))) ⌝ }
-    ensures places { λ _. ⌜ now (places .exit) ≡ cache same (length (now (places .entry))) (reverse (now (keys .entry))) ++ drop (length (cache same (length (now (places .entry))) (reverse (now (keys .entry))))) (now (places .entry)) ⌝ }
+    ensures places { λ _. ⌜ now (places .exit) ≡ memoryAfter same (now (keys .entry)) (now (places .entry)) ⌝ }
 {
     let mut missed = 0;
     let mut count = 0;

@@ -11,10 +11,10 @@ use Rattle.std.proofs.shelf.Tests.{cases-lt, cases-bool}
 use Rattle.std.proofs.shelf.Elements.{all-weaker}
 use Rattle.std.specs.shelf.Lists.{All}
 use Rattle.keys.specs.Sameness.{Lawful}
-use Rattle.locality.proofs.Sums.{sumOver-none, sumAbove-same, second}
+use Rattle.locality.proofs.Sums.{no-zero, sumOver-none, sumAbove-same, second}
 use Rattle.locality.proofs.Reuse.{since, distance-since}
-use Rattle.locality.proofs.Totals.{interval-bounds, gaps, gap-bounds, gap-times, gap-balance, beyond-table}
-use Rattle.locality.specs.Numbers.{sumOver, isNumber, sumAbove}
+use Rattle.locality.proofs.Totals.{interval-bounds, gaps, gap-bounds, gap-times, gap-balance, fit, beyond-table}
+use Rattle.locality.specs.Numbers.{sumOver, sumAbove}
 use Rattle.locality.specs.Log.{held, distinct, total, intervals, distances, gapCount}
 use Rattle.locality.specs.Statements.{gapSum, SameGaps, TotalsTellGaps, WholeBurstFills, EntryZeroIsEmpty}
 
@@ -26,21 +26,18 @@ same-sums same like xs ys e c w =
     ∙ ap (λ l. sumAbove w l (λ i. (i - w) * gapCount like i ys)) e
 
 module _ {K : Type 0} {same : K → K → Bool} (laws : Lawful same) where
-  pub fit : (log : List K) → All (λ g. g ≤ length log) (gaps laws log)
-  fit log = all-weaker (λ g. (1 ≤ g) × (g ≤ length log)) (λ g. g ≤ length log) (λ g h. h .1) (gaps laws log) (gap-bounds laws log)
-
   pub total-zero : (log : List K) → total same 0 log ≡ 0
   total-zero [] = grind arith
   total-zero (k ∷ past) = let r = total-zero past in grind arith
 
   -- no gap is 0
   pub no-gap-zero : (log : List K) → gapCount same 0 log ≡ 0
-  no-gap-zero log = gap-times laws 0 log ∙ sumOver-none (isNumber 0) (gaps laws log) (all-weaker (λ g. (1 ≤ g) × (g ≤ length log)) (λ g. isNumber 0 g ≡ 0) (λ g h. grind arith) (gaps laws log) (gap-bounds laws log))
+  no-gap-zero log = gap-times laws 0 log ∙ no-zero (gaps laws log) (all-weaker (λ g. (1 ≤ g) × (g ≤ length log)) (λ g. 1 ≤ g) (λ g h. h .0) (gaps laws log) (gap-bounds laws log))
 
   pub total-whole : (log : List K) → total same (length log) log ≡ distinct same log
   total-whole log =
       let n = length log in
-      let z = sumOver-none (λ g. g - n) (gaps laws log) (all-weaker (λ g. g ≤ n) (λ g. g - n ≡ 0) (λ g h. omega arith) (gaps laws log) (fit log)) in
+      let z = sumOver-none (λ g. g - n) (gaps laws log) (all-weaker (λ g. g ≤ n) (λ g. g - n ≡ 0) (λ g h. omega arith) (gaps laws log) (fit laws log)) in
       let e : suc n - n ≡ 1 = omega arith in
       let b : total same n log + sumOver (λ g. g - n) (gaps laws log) ≡ distinct same log * 1 = rw e at (gap-balance laws n log) in
       omega arith
@@ -73,12 +70,11 @@ module _ {K : Type 0} {same : K → K → Bool} (laws : Lawful same) where
       (h, (omega arith, rw e (omega arith)))
 
   pub zero-empty : EntryZeroIsEmpty same
-  zero-empty log =
-      let none = λ (gs : List ℕ) (h : All (λ g. 1 ≤ g) gs). sumOver-none (isNumber 0) gs (all-weaker (λ g. 1 ≤ g) (λ g. isNumber 0 g ≡ 0) (λ g l. grind arith) gs h) in (
-        no-gap-zero log,
-        none (intervals same log) (all-weaker (λ g. (1 ≤ g) × (g ≤ length log)) (λ g. 1 ≤ g) (λ g h. h .0) (intervals same log) (interval-bounds laws log)),
-        none (distances same log) (distance-positive log),
-      )
+  zero-empty log = (
+    no-gap-zero log,
+    no-zero (intervals same log) (all-weaker (λ g. (1 ≤ g) × (g ≤ length log)) (λ g. 1 ≤ g) (λ g h. h .0) (intervals same log) (interval-bounds laws log)),
+    no-zero (distances same log) (distance-positive log),
+  )
 
 module _ {K L : Type 0} {same : K → K → Bool} {like : L → L → Bool} (laws : Lawful same) (laws′ : Lawful like) where
   -- equal totals: equal sums beyond each length

@@ -21,7 +21,7 @@ use Rattle.locality.specs.Numbers.{sumAbove}
 use Rattle.locality.specs.Log.{distinct, total, gapCount, depthCount}
 use Rattle.locality.specs.Cache.{misses}
 use Rattle.locality.specs.Tables.{isTable, lastEntry, difference, beyond, totalOfTable, missesOfTable, TableOf, Tallies}
-use Rattle.locality.specs.Statements.{gapSum, SameTotals, SameGaps}
+use Rattle.locality.specs.Statements.{gapSum, SameTotals, SameGaps, TotalFromTable, MissesFromTable}
 
 -- what a checked subtraction answers
 pub checked-difference : (r : Option ℕ) (a b : ℕ) → Checked r (b ≤ a) (a - b) → r ≡ difference a b
@@ -50,7 +50,7 @@ unfolding gapSum
 gap-sum same log table t w = sum-of (gapCount same) log table t (λ i x. (i - w) * x) w
 
 module _ {K : Type 0} {same : K → K → Bool} (laws : Lawful same) where
-  pub total-of : (w m : ℕ) (log : List K) (table : List ℕ) → Tallies same (gapCount same) log table m → w ≤ length log → totalOfTable w m table ≡ Some (total same w log)
+  total-of : (w m : ℕ) (log : List K) (table : List ℕ) → Tallies same (gapCount same) log table m → w ≤ length log → totalOfTable w m table ≡ Some (total same w log)
   total-of w m log table t l =
       let yes′ = is-table (gapCount same) log table (t .counted) (t .fits) in
       let last = last-entry table (t .counted) in
@@ -61,11 +61,18 @@ module _ {K : Type 0} {same : K → K → Bool} (laws : Lawful same) where
       let fits : leb (gapSum same w log) (distinct same log * (length log - w + 1)) ≡ true = grind (arith, f .2) in
       rw (yes′, low, all, sum, fits) (ap Some (sym (f .0)))
 
-  pub misses-of : (c m : ℕ) (log : List K) (table : List ℕ) → Tallies same (depthCount same) log table m → missesOfTable c m table ≡ Some (misses same c log)
+  misses-of : (c m : ℕ) (log : List K) (table : List ℕ) → Tallies same (depthCount same) log table m → missesOfTable c m table ≡ Some (misses same c log)
   misses-of c m log table t =
       let yes′ = is-table (depthCount same) log table (t .counted) (t .fits) in
       let sum = sum-of (depthCount same) log table (t .counted) (λ d x. x) c in
       rw yes′ (ap Some (ap₂ _+_ (t .keyed) sum ∙ sym (missed laws log c)))
+
+  -- what an answer that the formula gives tells
+  pub total-told : (table : List ℕ) (m w : ℕ) (r : Option ℕ) → r ≡ totalOfTable w m table → TotalFromTable same table m w r
+  total-told table m w r a = record { formula = footprints laws; answers = a; counted = λ log t l. a ∙ total-of w m log table t l }
+
+  pub misses-told : (table : List ℕ) (m c : ℕ) (r : Option ℕ) → r ≡ missesOfTable c m table → MissesFromTable same table m c r
+  misses-told table m c r a = record { formula = missed laws; answers = a; simulated = λ log t. a ∙ misses-of c m log table t }
 
 module _ {K L : Type 0} {same : K → K → Bool} {like : L → L → Bool} (laws : Lawful same) (laws′ : Lawful like) where
   -- equal tables, equal totals

@@ -22,10 +22,6 @@ pub sumOver-add : {X : Type 0} (f g : X → ℕ) (xs : List X) → sumOver (λ x
 sumOver-add f g [] = refl
 sumOver-add f g (x ∷ xs) = omega (arith, sumOver-add f g xs)
 
-pub sumOver-same : {X : Type 0} (f g : X → ℕ) (xs : List X) → All (λ x. f x ≡ g x) xs → sumOver f xs ≡ sumOver g xs
-sumOver-same f g [] h = refl
-sumOver-same f g (x ∷ xs) h = omega (arith, sumOver-same f g xs (h .1))
-
 pub sumOver-each : {X : Type 0} (f g : X → ℕ) → ((x : X) → f x ≡ g x) → (xs : List X) → sumOver f xs ≡ sumOver g xs
 sumOver-each f g h [] = refl
 sumOver-each f g h (x ∷ xs) = omega (arith, sumOver-each f g h xs, h x)
@@ -34,17 +30,14 @@ pub sumOver-zero : {X : Type 0} (xs : List X) → sumOver (λ x. 0) xs ≡ 0
 sumOver-zero [] = refl
 sumOver-zero (x ∷ xs) = omega (arith, sumOver-zero xs)
 
-pub sumOver-le : {X : Type 0} (f g : X → ℕ) (xs : List X) → All (λ x. f x ≤ g x) xs → sumOver f xs ≤ sumOver g xs
-sumOver-le f g [] h = omega arith
-sumOver-le f g (x ∷ xs) h = omega (arith, sumOver-le f g xs (h .1))
-
-pub sumOver-scale : {X : Type 0} (f : X → ℕ) (c : ℕ) (xs : List X) → sumOver (λ x. f x * c) xs ≡ sumOver f xs * c
-sumOver-scale f c [] = omega arith
-sumOver-scale f c (x ∷ xs) = omega (arith, sumOver-scale f c xs)
-
 pub sumOver-none : {X : Type 0} (f : X → ℕ) (xs : List X) → All (λ x. f x ≡ 0) xs → sumOver f xs ≡ 0
 sumOver-none f [] h = refl
 sumOver-none f (x ∷ xs) h = omega (arith, sumOver-none f xs (h .1))
+
+-- numbers from 1 on have no 0 among them
+pub no-zero : (xs : List ℕ) → All (λ x. 1 ≤ x) xs → times 0 xs ≡ 0
+no-zero [] h = refl
+no-zero (x ∷ xs) h = let r = no-zero xs (h .1) in let l = h .0 in grind arith
 
 -- tables
 pub sumAbove-same : (w n : ℕ) (f g : ℕ → ℕ) → ((i : ℕ) → i ≤ n → f i ≡ g i) → sumAbove w n f ≡ sumAbove w n g

@@ -34,6 +34,10 @@ inside-step v n t = grind arith
 step : (w n t : ℕ) → t ≤ n → inside w (suc n) t + ((suc (suc n) - t) - w) ≡ ((suc n - t) - w) + 1
 step w n t h = grind arith
 
+pub windows-count : {K : Type 0} (w : ℕ) (log : List K) → length (windows w log) ≡ suc (length log) - w
+windows-count w [] = grind arith
+windows-count w (k ∷ past) = let r = windows-count w past in grind arith
+
 module _ {K : Type 0} {same : K → K → Bool} (laws : Lawful same) where
   -- the newest window of length w has the keys whose last time lies in it
   pub distinct-take : (w : ℕ) (log : List K) → distinct same (take w log) ≡ sumOver (λ e. inside w (length log) (e .time)) (recent same log)
@@ -59,10 +63,6 @@ module _ {K : Type 0} {same : K → K → Bool} (laws : Lawful same) where
       let e : cond {A = ℕ} (held same k (take v past)) 0 1 ≡ 1 = rw (t, y) in
       omega arith)
       (cases-bool (held same k past))
-
-  pub windows-count : (w : ℕ) (log : List K) → length (windows w log) ≡ suc (length log) - w
-  windows-count w [] = grind arith
-  windows-count w (k ∷ past) = let r = windows-count w past in grind arith
 
   pub total-more : (w : ℕ) (k : K) (past : List K) → total same w (k ∷ past) ≡ cond (leb w (suc (length past))) (distinct same (take w (k ∷ past))) 0 + total same w past
   total-more w k past = grind arith
@@ -192,12 +192,15 @@ module _ {K : Type 0} {same : K → K → Bool} (laws : Lawful same) where
       let l = last-sum f log in
       rw (s, l) r
 
+  pub fit : (log : List K) → All (λ g. g ≤ length log) (gaps log)
+  fit log = all-weaker (λ g. (1 ≤ g) × (g ≤ length log)) (λ g. g ≤ length log) (λ g h. h .1) (gaps log) (gap-bounds log)
+
   -- the same over the gap table
   pub beyond-table : (w : ℕ) (log : List K) → gapSum same w log ≡ sumOver (λ g. g - w) (gaps log)
   unfolding gapSum
   beyond-table w log =
       sumAbove-same w (length log) _ (λ i. (i - w) * times i (gaps log)) (λ i l. ap (λ c. (i - w) * c) (gap-times i log))
-      ∙ table w (length log) (gaps log) (all-weaker (λ g. (1 ≤ g) × (g ≤ length log)) (λ g. g ≤ length log) (λ g h. h .1) (gaps log) (gap-bounds log))
+      ∙ table w (length log) (gaps log) (fit log)
 
   pub footprints : TotalsFromGaps same
   footprints log w h =

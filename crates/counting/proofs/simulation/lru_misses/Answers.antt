@@ -1,7 +1,7 @@
 use mathlib.Core.Path.{_≡_, sym, ap, ap₂, _∙_}
-use mathlib.Core.Bool.{true, false}
+use mathlib.Core.Bool.{true, false, cond}
 use mathlib.Core.List.{[], _++_}
-use Prim.Native.Nat.{_+_, _≤_}
+use Prim.Native.Nat.{ℕ, _+_, _≤_}
 use native.Mathlib.Omega.{arith}
 use lib.ListN.{length, take, drop}
 use Rattle.std.proofs.shelf.Lists.{take-all, take-at}
@@ -37,16 +37,13 @@ loop-key-again g c =
     let fits : r .1 ≤ room = omega (arith, count, grown .1) in
     let held-now : r .1 ≡ length (cacheFrom same room [] (take (i + 1) keys)) = c .access-hit .ensures .count ∙ ap length step in
     let memory = c .access-hit .ensures .places ∙ ap₂ _++_ step behind in
-    elim (c .if-not-hit .came) [
-      | then-not-hit w ↦
-          let y : held same x ks ≡ false = sym hit ∙ w .if-not-hit .taken in
-          let e : missesFrom same room [] (take (i + 1) keys) ≡ 1 + missesFrom same room [] (take i keys) = rw y at more in
-          (omega (arith, c .loop-key .inv .0, w .missed-is), fits, held-now, memory, omega (arith, c .loop-key .inv .4, w .missed-is, e))
-      | else-not-hit w ↦
-          let y : held same x ks ≡ true = sym hit ∙ w .if-not-hit .left in
-          let e : missesFrom same room [] (take (i + 1) keys) ≡ 0 + missesFrom same room [] (take i keys) = rw y at more in
-          (omega (arith, c .loop-key .inv .0, w .missed-is), fits, held-now, memory, omega (arith, c .loop-key .inv .4, w .missed-is, e))
-    ]
+    let missed : c .if-not-hit .missed ≡ cond (held same x ks) 0 1 + c .loop-key .missed
+    = elim (c .if-not-hit .came) [
+      | then-not-hit w ↦ let y : held same x ks ≡ false = sym hit ∙ w .if-not-hit .taken in rw y (omega (arith, w .missed-is))
+      | else-not-hit w ↦ let y : held same x ks ≡ true = sym hit ∙ w .if-not-hit .left in rw y (omega (arith, w .missed-is))
+    ] in
+    let one : cond {A = ℕ} (held same x ks) 0 1 ≤ 1 = grind arith in
+    (omega (arith, c .loop-key .inv .0, missed, one), fits, held-now, memory, omega (arith, c .loop-key .inv .4, missed, more))
 
 pub returns : need.returns
 returns g c =

@@ -1,6 +1,6 @@
 use mathlib.Core.Path.{_≡_, sym, ap, _∙_}
-use mathlib.Core.Bool.{true, false}
-use Prim.Native.Nat.{_+_, _-_}
+use mathlib.Core.Bool.{true, false, cond}
+use Prim.Native.Nat.{ℕ, _+_, _-_, _≤_}
 use native.Mathlib.Omega.{arith}
 use lib.ListN.{take}
 use Rattle.std.proofs.shelf.Lists.{take-all}
@@ -19,16 +19,13 @@ loop-i-again g c =
     let d = distinct-more (g .K·Key·met .lawful) xs i x (c .loop-i-test .taken) (c .index-keys-i .is) in
     let z : i - 0 ≡ i = omega arith in
     let h : c .is-held .result ≡ held same x (take i xs) = c .is-held .ensures ∙ ap (λ j. held same x (take j xs)) z in
-    elim (c .if-not-is-held .came) [
-      | then-not-is-held w ↦
-          let y : held same x (take i xs) ≡ false = sym h ∙ w .if-not-is-held .taken in
-          let e : distinct same (take (i + 1) xs) ≡ 1 + distinct same (take i xs) = rw y at d in
-          (omega (arith, c .loop-i .inv .0, w .count-is), omega (arith, c .loop-i .inv .1, w .count-is, e))
-      | else-not-is-held w ↦
-          let y : held same x (take i xs) ≡ true = sym h ∙ w .if-not-is-held .left in
-          let e : distinct same (take (i + 1) xs) ≡ 0 + distinct same (take i xs) = rw y at d in
-          (omega (arith, c .loop-i .inv .0, w .count-is), omega (arith, c .loop-i .inv .1, w .count-is, e))
-    ]
+    let count : c .if-not-is-held .count ≡ cond (held same x (take i xs)) 0 1 + c .loop-i .count
+    = elim (c .if-not-is-held .came) [
+      | then-not-is-held w ↦ let y : held same x (take i xs) ≡ false = sym h ∙ w .if-not-is-held .taken in rw y (omega (arith, w .count-is))
+      | else-not-is-held w ↦ let y : held same x (take i xs) ≡ true = sym h ∙ w .if-not-is-held .left in rw y (omega (arith, w .count-is))
+    ] in
+    let one : cond {A = ℕ} (held same x (take i xs)) 0 1 ≤ 1 = grind arith in
+    (omega (arith, c .loop-i .inv .0, count, one), omega (arith, c .loop-i .inv .1, count, d))
 
 pub returns : need.returns
 returns g c =

@@ -6,19 +6,18 @@ use lib.Dec.{leb}
 use lib.ListN.{length}
 use Rattle.std.specs.declared.option.Option.the-variants.{None}
 use Rattle.locality.specs.Tables.{isTable, lastEntry, difference, totalOfTable}
-use Rattle.locality.proofs.Totals.{footprints}
-use Rattle.locality.proofs.OfTables.{checked-difference, total-of}
+use Rattle.locality.proofs.OfTables.{checked-difference, total-told}
 use Rattle.locality.proofs.tables.table_total.Needs as need
 
 pub returns-then-not-is-table : need.returns-then-not-is-table
 returns-then-not-is-table g c =
     let a : None ≡ totalOfTable (c .args .window) (c .args .keys) (c .args .gaps .now) = (let y : isTable (c .args .gaps .now) ≡ false = sym (c .if-not-is-table .ensures tt) in rw y) in
-    record { formula = footprints (g .K·Key·met .lawful); answers = a; counted = λ log t l. a ∙ total-of (g .K·Key·met .lawful) _ _ log _ t l }
+    total-told (g .K·Key·met .lawful) _ _ _ _ a
 
 pub returns-then-w-gaps : need.returns-then-w-gaps
 returns-then-w-gaps g c =
     let a : None ≡ totalOfTable (c .args .window) (c .args .keys) (c .args .gaps .now) = (let y : leb (c .args .window) (lastEntry (c .args .gaps .now)) ≡ false = grind arith in let t : isTable (c .args .gaps .now) ≡ true = sym (c .if-not-is-table .ensures tt) in rw (t, y)) in
-    record { formula = footprints (g .K·Key·met .lawful); answers = a; counted = λ log t l. a ∙ total-of (g .K·Key·met .lawful) _ _ log _ t l }
+    total-told (g .K·Key·met .lawful) _ _ _ _ a
 
 pub returns : need.returns
 returns g c =
@@ -33,4 +32,4 @@ returns g c =
     ∙ ap (λ m. difference (m * (length (c .args .gaps .now) - c .args .window)) (c .gaps-beyond .result)) k
     ∙ ap (λ m. difference (c .args .keys * m) (c .gaps-beyond .result)) n
     ∙ ap (difference (c .args .keys * (lastEntry (c .args .gaps .now) - c .args .window + 1))) s)) in
-    record { formula = footprints (g .K·Key·met .lawful); answers = a; counted = λ log t l. a ∙ total-of (g .K·Key·met .lawful) _ _ log _ t l }
+    total-told (g .K·Key·met .lawful) _ _ _ _ a
