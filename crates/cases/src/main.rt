@@ -1,4 +1,6 @@
 // Reads bursts from standard input, one a line, a letter a key, and prints what each measures.
+#![tactic(auto)]
+
 mod curve;
 mod letters;
 mod report;

@@ -1,4 +1,6 @@
 // Key kinds: what a burst takes for one thing. A kind says when two of its keys are the same.
+#![tactic(auto)]
+
 mod block;
 mod kind;
 mod line;

@@ -1,4 +1,6 @@
 // A recency store that keeps its entries in recency order, at the front of a slice that the caller provides.
+#![tactic(auto)]
+
 mod moves;
 mod searches;
 mod store;

@@ -1,4 +1,6 @@
 // Recency stores: what has been accessed, newest first. A store is known by the calls of one trait.
+#![tactic(auto)]
+
 mod entries;
 mod laws;
 mod store;

@@ -1,4 +1,6 @@
 // Why a call is refused. Every refusal of the analyzer is one of these, and each has a number.
+#![tactic(auto)]
+
 ghost use Rattle.std.specs.Prelude.{◌≡◌};
 ghost use Rattle.refusals.specs.Numbers.{number_of};
 

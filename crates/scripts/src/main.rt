@@ -1,4 +1,6 @@
 // Reads scripts from standard input, one a line, and runs each on the recency stores.
+#![tactic(auto)]
+
 mod lettered;
 mod lines;
 mod script;
