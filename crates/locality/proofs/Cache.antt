@@ -1,5 +1,5 @@
 -- Depth in the recency list is the distance, and the LRU cache holds the front of the recency list. Assumes nothing.
-use Rattle.std.proofs.Common.{◌≡◌, ℕ, zero, suc, ◌+◌, ◌-◌, ◌≤◌, Bool, true, false, cond, ◌&&◌, ◌||◌, leb, List, [], ◌∷◌, length, take, Some, sym, refl, ap, ◌∙◌, subst, ap₂, ⊎_elim, arith, take-take}
+use Rattle.std.proofs.Common.{◌≡◌, ℕ, zero, suc, ◌+◌, ◌≤◌, Bool, true, false, cond, ◌&&◌, ◌||◌, leb, List, [], ◌∷◌, length, take, Some, sym, refl, ap, ◌∙◌, subst, ap₂, ⊎_elim, arith, take-take}
 use mathlib.Core.Bool.{false≢true}
 use Rattle.std.proofs.lemmas.Bool.{cases_Bool}
 use Rattle.std.proofs.ByRecursion.{All-weaker}

@@ -1,8 +1,8 @@
 -- The former position, and the accesses since then: what interval and distance count. Assumes nothing.
-use Rattle.std.proofs.Common.{◌≡◌, ℕ, zero, suc, ◌+◌, ◌-◌, ◌≤◌, Bool, true, false, cond, ◌&&◌, leb, List, [], ◌∷◌, length, take, Some, None, refl, ap, ◌∙◌, ⊎_elim, arith}
+use Rattle.std.proofs.Common.{◌≡◌, ℕ, zero, suc, ◌+◌, ◌≤◌, Bool, true, false, cond, ◌&&◌, leb, List, [], ◌∷◌, length, take, Some, None, refl, ap, ◌∙◌, ⊎_elim, arith}
 use mathlib.Core.Bool.{false≢true}
 use Rattle.std.proofs.lemmas.Bool.{cases_Bool}
-use Rattle.locality.specs.Log.{held, distinct, former, back, interval, distance}
+use Rattle.locality.specs.Log.{held, distinct, former, back, distance}
 
 module _ {K : Type 0} (same : K → K → Bool) where
   -- the accesses from the former position of k on, or all

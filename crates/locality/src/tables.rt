@@ -8,7 +8,7 @@ use keys::Key;
 
 // The total of a window length, from a gap table and the number of different keys.
 pub(crate) fn table_total<K: Key>(gaps: &[u32], keys: u32, window: u32) -> Option<u64>
-    ensures { TotalFromTable same gaps.now keys window result }
+    ensures { TotalFromTable K.same gaps.now keys window result }
 {
     let w = window as usize;
     if !is_table(gaps) {
@@ -23,7 +23,7 @@ pub(crate) fn table_total<K: Key>(gaps: &[u32], keys: u32, window: u32) -> Optio
 
 // The misses of a cache size, from a table of depth counts and the number of different keys.
 pub(crate) fn table_misses<K: Key>(depths: &[u32], keys: u32, size: u32) -> Option<u64>
-    ensures { MissesFromTable same depths.now keys size result }
+    ensures { MissesFromTable K.same depths.now keys size result }
 {
     if !is_table(depths) {
         return None;

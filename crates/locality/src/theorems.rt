@@ -11,7 +11,7 @@ use keys::Key;
 // None where the table has no entry or more than 4,097, where the window is longer than the burst, and where the sum of
 // the gaps is larger than keys × windows, which no burst's table has.
 pub fn total_from_gaps<K: Key>(gaps: &[u32], keys: u32, window: u32) -> Option<u64>
-    ensures { TotalFromTable same gaps.now keys window result }
+    ensures { TotalFromTable K.same gaps.now keys window result }
 {
     table_total::<K>(gaps, keys, window)
 }
@@ -19,7 +19,7 @@ pub fn total_from_gaps<K: Key>(gaps: &[u32], keys: u32, window: u32) -> Option<u
 // The misses of an LRU cache, from a table of depth counts and the number of different keys.
 // None where the table has no entry or more than 4,097.
 pub fn misses_from_depths<K: Key>(depths: &[u32], keys: u32, size: u32) -> Option<u64>
-    ensures { MissesFromTable same depths.now keys size result }
+    ensures { MissesFromTable K.same depths.now keys size result }
 {
     table_misses::<K>(depths, keys, size)
 }
@@ -33,37 +33,37 @@ pub fn gaps_tell_totals<K: Key, L: Key>(one: &[u32], other: &[u32]) -> bool
 
 // Interval and distance of the next access can be read off the recency list.
 pub fn next_from_recency<K: Key>()
-    ensures { NextFromRecency same }
+    ensures { NextFromRecency K.same }
 {}
 
 // The recency list has each different key once, under its last position, newest first, as first stored.
 pub fn recency_list_of_a_log<K: Key>()
-    ensures { (log : List K) → RecencyList same log }
+    ensures { (log : List K) → RecencyList K.same log }
 {}
 
 // A put back of the former time after a touch gives the list before it.
 pub fn put_back_undoes_touch<K: Key>()
-    ensures { PutBackUndoes same }
+    ensures { PutBackUndoes K.same }
 {}
 
 // The depth of a key is one more than the number of later times.
 pub fn depth_from_later_times<K: Key>()
-    ensures { DepthFromTimes same }
+    ensures { DepthFromTimes K.same }
 {}
 
 // Every size up to the number of keys has a window length that fills it.
 pub fn whole_burst_fills<K: Key>()
-    ensures { WholeBurstFills same }
+    ensures { WholeBurstFills K.same }
 {}
 
 // Entry 0 of every table of counts is 0.
 pub fn entry_zero_is_empty<K: Key>()
-    ensures { EntryZeroIsEmpty same }
+    ensures { EntryZeroIsEmpty K.same }
 {}
 
 // Every definition in use is the textbook's, by position and oldest first, and so is the access log of any calls.
 pub fn textbook_agrees<K: Key>()
-    ensures { TextbookAgrees same }
+    ensures { TextbookAgrees K.same }
 {}
 
 // The worked bursts have the values that docs/LOCALITY.md states.

@@ -8,8 +8,8 @@ loop-byte-preserved c =
     let xs = c.args.line.now in
     let i = c.loop-byte.byte-index in
     let start = string_bytes c.args.out.now in
-    let e = c.in-ok-push.ensures in
-    let b = c.shown-byte.ensures in
+    let e = c.in_ok-push.ensures in
+    let b = c.shown_byte.ensures in
     e.bytes
     ∙ ap₂ ◌++◌ c.loop-byte.invariant (e.ascii b.ascii ∙ ap (λ x. x ∷ []) b.value)
     ∙ append_assoc start (map shown (take i xs)) _

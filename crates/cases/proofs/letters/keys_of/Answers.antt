@@ -7,7 +7,7 @@ pub loop-byte-preserved : goal.loop-byte-preserved
 loop-byte-preserved c =
     let xs = c.args.line.now in
     let i = c.loop-byte.byte-index in
-    c.in-ok-push.ensures.items
+    c.in_ok-push.ensures.items
     ∙ ap (λ l. l ++ (as_letter (get_or xs i 0) ∷ [])) c.loop-byte.invariant
     ∙ sym (map_more as_letter xs i 0 c.loop-byte-test.true)
 

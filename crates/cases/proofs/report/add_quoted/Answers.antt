@@ -7,5 +7,5 @@ pub returns : goal.returns
 returns c =
     let line = map shown c.args.line.now in
     appended (string_bytes c.args.out.now) (34 ∷ []) (line ++ (34 ∷ [])) _ _
-    c.in-ok-push-str.ensures.bytes
-    (appended (string_bytes c.push-str.new.self) line (34 ∷ []) _ _ c.in-ok-echo.ensures c.in-ok-push-str-2.ensures.bytes)
+    c.in_ok-push_str.ensures.bytes
+    (appended (string_bytes c.push_str.new.self) line (34 ∷ []) _ _ c.in_ok-echo.ensures c.in_ok-push_str-2.ensures.bytes)

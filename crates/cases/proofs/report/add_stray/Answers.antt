@@ -5,4 +5,4 @@ use Rattle.cases.proofs.report.add_stray.Goals as goal
 
 pub returns-in-Ok : goal.returns-in-Ok
 returns-in-Ok c =
-    appended (string_bytes c.args.out.now) (quoted c.args.line.now) _ _ _ c.in-ok-add-quoted.ensures c.in-Ok.ensures.bytes
+    appended (string_bytes c.args.out.now) (quoted c.args.line.now) _ _ _ c.in_ok-add_quoted.ensures c.in-Ok.ensures.bytes

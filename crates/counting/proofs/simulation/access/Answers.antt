@@ -27,7 +27,7 @@ returns-then-at-count g c =
       hit = sym y;
       count = let l = ap length now in omega (arith, l, len, length-append (take i ks) (drop (i + 1) ks), length-take i ks, length-drop (i + 1) ks, c.if-at-count.true);
       places =
-          c.bring-forward.ensures k
+          c.bring_forward.ensures k
           ∙ ap {B = List g.row.K.Denot} (λ l. x ∷ (take i l ++ drop (i + 1) l)) (sym all)
           ∙ moved x ks (drop n xs) i (omega (arith, len, c.if-at-count.true))
           ∙ ap (λ l. l ++ drop n xs) now;

@@ -13,5 +13,5 @@ returns g c =
     let le : m ≤ length xs = omega (arith, c.min-last.ensures) in
     record {
       count = let l = ap length shape in omega (arith, l, length-take-le m xs le);
-      places = ap (λ l. set l 0 k) (c.bring-forward.ensures k) ∙ sym (ap (λ l. l ++ drop (m + 1) xs) shape);
+      places = ap (λ l. set l 0 k) (c.bring_forward.ensures k) ∙ sym (ap (λ l. l ++ drop (m + 1) xs) shape);
     }

@@ -9,6 +9,6 @@ returns g c = λ d.
     let i = c.args.at in
     let z : i + 1 - 0 ≡ i + 1 = omega arith in
     let n : length (take (i + 1) xs) - 1 ≡ i = omega (arith, length-take-le (i + 1) xs (omega arith)) in
-    let front : c.rotate-right.new.self ≡ get_or xs i d ∷ take i xs
-    = c.rotate-right.ensures.after ∙ ap (λ j. drop (length (take j xs) - 1) (take j xs) ++ take (length (take j xs) - 1) (take j xs)) z ∙ rotated xs i d (length (take (i + 1) xs) - 1) c.requires n in
+    let front : c.rotate_right.new.self ≡ get_or xs i d ∷ take i xs
+    = c.rotate_right.ensures.after ∙ ap (λ j. drop (length (take j xs) - 1) (take j xs) ++ take (length (take j xs) - 1) (take j xs)) z ∙ rotated xs i d (length (take (i + 1) xs) - 1) c.requires n in
     ap₂ ◌++◌ front (ap (λ j. drop j xs) z)

@@ -22,8 +22,8 @@ loop-start-preserved g c =
     let f : ℕ → ℕ = λ s. distinct same (window w s xs) in
     let many : s + w - s ≡ w = omega arith in
     let from : s ≡ s + 1 - 1 = omega arith in
-    let here : c.distinct-keys.result ≡ f (s + 1) = c.distinct-keys.ensures.slice ∙ ap₂ (λ n j. distinct same (take n (drop j xs))) many from in
-    (omega (arith, c.loop-start.invariant.0, c.distinct-keys.type-inv), ap₂ ◌+◌ c.loop-start.invariant.1 here ∙ sym (sum_more f s))
+    let here : c.distinct_keys.result ≡ f (s + 1) = c.distinct_keys.ensures.slice ∙ ap₂ (λ n j. distinct same (take n (drop j xs))) many from in
+    (omega (arith, c.loop-start.invariant.0, c.distinct_keys.type_inv), ap₂ ◌+◌ c.loop-start.invariant.1 here ∙ sym (sum_more f s))
 
 pub returns : goal.returns
 returns g c =
@@ -36,6 +36,6 @@ returns g c =
     let many : n - (n - w) ≡ w = omega arith in
     let from : n - w ≡ n - w + 1 - 1 = omega arith in
     let all : n - w + 1 ≡ suc n - w = omega arith in
-    let here : c.distinct-keys-2.result ≡ f (n - w + 1) = c.distinct-keys-2.ensures.slice ∙ ap₂ (λ m j. distinct same (take m (drop j xs))) many from in
+    let here : c.distinct_keys-2.result ≡ f (n - w + 1) = c.distinct_keys-2.ensures.slice ∙ ap₂ (λ m j. distinct same (take m (drop j xs))) many from in
     let sum : c.loop-start.sum ≡ sum_over f (positions (n - w)) = c.loop-start.invariant.1 ∙ ap (λ m. sum_over f (positions m)) end in
     ap₂ ◌+◌ sum here ∙ sym (sum_more f (n - w)) ∙ ap (λ m. sum_over f (positions m)) all ∙ sym (total-slice g.met.K.Key.lawful w xs)

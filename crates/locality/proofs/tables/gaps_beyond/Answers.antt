@@ -8,8 +8,8 @@ loop-i-init c =
     let w = c.args.w in
     (omega arith, sym (sum_above_none w (λ i. (i - w) * get_or c.args.gaps.now i 0) (w + 1 - 1) (omega arith)))
 
-pub overflow-add-sum : goal.overflow-add-sum
-overflow-add-sum c =
+pub overflow_add-sum : goal.overflow_add-sum
+overflow_add-sum c =
     let d = c.loop-i.i - c.args.w in
     let k = c.from.result in
     let d-le : d ≤ 4096 = omega arith in

@@ -3,18 +3,18 @@ use Rattle.std.proofs.lemmas.List.Sums.{prefix_len-drop_yes, prefix_len-drop_no,
 use Rattle.locality.specs.declared.entry.Entry.{Entry}
 use Rattle.ordered.proofs.searches.find.Goals as goal
 
-pub returns-then-same-as : goal.returns-then-same-as
-returns-then-same-as g c =
+pub returns-then-same_as : goal.returns-then-same_as
+returns-then-same_as g c =
     let p = λ (e : Entry g.row.K.Denot). not (g.row.K-Key.same c.args.key.now e.key) in
     let e = c.index-entries-i.result in
-    let y : p e ≡ false = ap not (sym c.if-same-as.ensures) in
+    let y : p e ≡ false = ap not (sym c.if-same_as.ensures) in
     omega (arith, c.loop-i.invariant, prefix_len-drop_no p c.args.entries.now c.loop-i.i e c.loop-i-test.true (ap p (sym c.index-entries-i.is) ∙ y))
 
 pub loop-i-preserved : goal.loop-i-preserved
 loop-i-preserved g c =
     let p = λ (e : Entry g.row.K.Denot). not (g.row.K-Key.same c.args.key.now e.key) in
     let e = c.index-entries-i.result in
-    let y : p e ≡ true = ap not (sym c.if-same-as.ensures) in
+    let y : p e ≡ true = ap not (sym c.if-same_as.ensures) in
     omega (arith, c.loop-i.invariant, prefix_len-drop_yes p c.args.entries.now c.loop-i.i e c.loop-i-test.true (ap p (sym c.index-entries-i.is) ∙ y))
 
 pub returns : goal.returns

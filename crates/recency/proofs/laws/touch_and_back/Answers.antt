@@ -5,7 +5,7 @@ use Rattle.recency.proofs.laws.touch_and_back.Goals as goal
 
 pub returns : goal.returns
 returns g c =
-    let rule = c.in-ok-answer.ensures.rule in
+    let rule = c.in_ok-answer.ensures.rule in
     let back = c.put_back_lem.ensures.rule in
     record {
       places = back.places ∙ rule.places;
@@ -17,5 +17,5 @@ returns g c =
       law = undone_told g.met.S.Key.Key.lawful;
     }
 
-pub returns-in-err-answer : goal.returns-in-err-answer
-returns-in-err-answer g c = record { places = search rules; refusal = search rules; undone = search rules; law = undone_told g.met.S.Key.Key.lawful }
+pub returns-in_err-answer : goal.returns-in_err-answer
+returns-in_err-answer g c = record { places = search rules; refusal = search rules; undone = search rules; law = undone_told g.met.S.Key.Key.lawful }

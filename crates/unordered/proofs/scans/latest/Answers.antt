@@ -5,8 +5,8 @@ use Rattle.unordered.proofs.Slots.{latest_new, latest_old}
 use Rattle.unordered.proofs.scans.latest.Goals as goal
 use Rattle.unordered.proofs.scans.latest.Goals.{then-e-slots, else-e-slots}
 
-pub offset-bounds-slots-best : goal.offset-bounds-slots-best
-offset-bounds-slots-best g c = let within : c.loop-i.best < length c.args.slots.now = c.loop-i.invariant.0 (omega arith) in search rules
+pub offset_bounds-slots-best : goal.offset_bounds-slots-best
+offset_bounds-slots-best g c = let within : c.loop-i.best < length c.args.slots.now = c.loop-i.invariant.0 (omega arith) in search rules
 
 pub loop-i-preserved : goal.loop-i-preserved
 loop-i-preserved g c =

@@ -30,7 +30,7 @@ returns-else-at-used g c =
     let at : ltb c.args.at c.used.result ≡ held g.row.K-Key.same k (keys es)
     = ap₂ ltb c.requires c.used.ensures.count ∙ held-index g.row.K-Key.same k es in
     let y : held g.row.K-Key.same k (keys es) ≡ false = sym at ∙ le-ltb _ _ c.if-at-used.false in
-    let value = c.has-free-place.ensures ∙ sym (ap (λ b. b || ltb (length es) (ordered_places s)) y) in
+    let value = c.has_free_place.ensures ∙ sym (ap (λ b. b || ltb (length es) (ordered_places s)) y) in
     record {
       value = value;
       rule = unless_told _ _ (λ z. refusal_owes g.met.K.Key.lawful k c.args.-time s (sym value ∙ z));

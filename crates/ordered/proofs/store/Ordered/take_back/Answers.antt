@@ -49,7 +49,7 @@ lower-requires g c =
     let S = c.args.self.now.slots.now in
     let es = take (min c.args.self.now.count 4096) S in
     let bound = prefix_len-le-length (λ e. not (leb e.time c.args.former)) (drop 1 es) in
-    omega (arith, c.later-behind-at.ensures, bound, length-drop 1 es, length-take (min c.args.self.now.count 4096) S, c.used-held.ensures.count)
+    omega (arith, c.later_behind-at.ensures, bound, length-drop 1 es, length-take (min c.args.self.now.count 4096) S, c.used-held.ensures.count)
 
 pub returns : goal.returns
 returns g c =
@@ -57,13 +57,13 @@ returns g c =
     let S = s.slots.now in
     let n = min s.count 4096 in
     let es = take n S in
-    let q = c.later-behind-at.result in
+    let q = c.later_behind-at.result in
     let d = c.index-self-0.result in
     let after = c.lower.new.self in
     let size = length-take n S in
     let some : 0 < length es = omega (arith, c.used-held.ensures.count) in
     let bound = prefix_len-le-length (λ e. not (leb e.time c.args.former)) (drop 1 es) in
-    let low : q ≤ length (drop 1 es) = omega (arith, c.later-behind-at.ensures) in
+    let low : q ≤ length (drop 1 es) = omega (arith, c.later_behind-at.ensures) in
     let read : get_or S 0 d ≡ get_or es 0 d = sym (get_or-take n S 0 d (omega arith)) in
     let y = at_time (get_or S 0 d).key c.args.former in
     let E = take q (drop 1 es) ++ y ∷ drop q (drop 1 es) in
@@ -72,7 +72,7 @@ returns g c =
     let fits : length E ≤ length S = omega (arith, length_sunk y es q some low) in
     let new : E ≡ put_back c.args.former es
     = ap (λ x. take q (drop 1 es) ++ at_time x.key c.args.former ∷ drop q (drop 1 es)) read
-    ∙ sym (back_some c.args.former es d q c.if-former-eq0.false some c.later-behind-at.ensures) in
+    ∙ sym (back_some c.args.former es d q c.if-former-eq0.false some c.later_behind-at.ensures) in
     record {
       rule = back_owes s after E slots list fits c.lower.ensures.callers g.met.K.Key.lawful c.args.former new;
       always = back_leaves s after E slots list fits c.lower.ensures.callers g.met.K.Key.lawful c.args.former new;

@@ -17,17 +17,17 @@ returns-then-self-eq0 g c =
       callers = refl;
     }
 
-pub offset-bounds-self-at : goal.offset-bounds-self-at
-offset-bounds-self-at g c =
+pub offset_bounds-self-at : goal.offset_bounds-self-at
+offset_bounds-self-at g c =
     let S = c.args.self.now.slots.now in
-    let place = latest_within 4096 S c.in-places.result.now c.latest-at.result c.in-places.ensures (omega arith) (omega arith) c.latest-at.ensures in
+    let place = latest_within 4096 S c.in_places.result.now c.latest-at.result c.in_places.ensures (omega arith) (omega arith) c.latest-at.ensures in
     let within : c.latest-at.result < length S = omega arith in
     search rules
 
 pub bounds-self-at : goal.bounds-self-at
 bounds-self-at g c =
     let S = c.args.self.now.slots.now in
-    omega (arith, latest_within 4096 S c.in-places.result.now c.latest-at.result c.in-places.ensures (omega arith) (omega arith) c.latest-at.ensures)
+    omega (arith, latest_within 4096 S c.in_places.result.now c.latest-at.result c.in_places.ensures (omega arith) (omega arith) c.latest-at.ensures)
 
 pub returns-then-front-eq0 : goal.returns-then-front-eq0
 returns-then-front-eq0 g c =
@@ -35,7 +35,7 @@ returns-then-front-eq0 g c =
     let p = c.latest-at.result in
     let d = c.index-self-at.result in
     let x = get_or S p d in
-    let most = latest_most 4096 S c.in-places.result.now p c.in-places.ensures (omega arith) (omega arith) c.latest-at.ensures d in
+    let most = latest_most 4096 S c.in_places.result.now p c.in_places.ensures (omega arith) (omega arith) c.latest-at.ensures d in
     let none : held_in (take 4096 S) ≡ []
     = all_free (take 4096 S) (All-weaker (λ e. e.time ≤ x.time) (λ e. e.time ≡ 0) (λ e q. omega (arith, c.if-front-eq0.true)) (take 4096 S) most) in
     record {
@@ -47,7 +47,7 @@ returns-then-front-eq0 g c =
 pub lower-requires : goal.lower-requires
 lower-requires g c =
     let S = c.args.self.now.slots.now in
-    omega (arith, latest_within 4096 S c.in-places.result.now c.latest-at.result c.in-places.ensures (omega arith) (omega arith) c.latest-at.ensures)
+    omega (arith, latest_within 4096 S c.in_places.result.now c.latest-at.result c.in_places.ensures (omega arith) (omega arith) c.latest-at.ensures)
 
 pub returns : goal.returns
 returns g c =
@@ -57,8 +57,8 @@ returns g c =
     let p = c.latest-at.result in
     let d = c.index-self-at.result in
     let x = get_or S p d in
-    let within = latest_within 4096 S c.in-places.result.now p c.in-places.ensures (omega arith) (omega arith) c.latest-at.ensures in
-    let most = latest_most 4096 S c.in-places.result.now p c.in-places.ensures (omega arith) (omega arith) c.latest-at.ensures d in
+    let within = latest_within 4096 S c.in_places.result.now p c.in_places.ensures (omega arith) (omega arith) c.latest-at.ensures in
+    let most = latest_most 4096 S c.in_places.result.now p c.in_places.ensures (omega arith) (omega arith) c.latest-at.ensures d in
     let at = slot_read 4096 S p d within in
     let left : x.time ≡ 0 → ⊥ = c.if-front-eq0.false in
     let some : 1 ≤ x.time = omega arith in

@@ -7,8 +7,8 @@ use Rattle.unordered.proofs.Slots.{slot_read, slot_passes, slots_fail}
 use Rattle.unordered.proofs.Calls.{holds, lacking, all_taken, found_owes, first_owes, refusal_owes}
 use Rattle.unordered.proofs.store.Unordered.touch_slot.Goals as goal
 
-pub offset-bounds-self-at : goal.offset-bounds-self-at
-offset-bounds-self-at g c = let within : c.holding-at.result < length c.args.self.now.slots.now = omega arith in search rules
+pub offset_bounds-self-at : goal.offset_bounds-self-at
+offset_bounds-self-at g c = let within : c.holding-at.result < length c.args.self.now.slots.now = omega arith in search rules
 
 pub returns-then-at-places : goal.returns-then-at-places
 returns-then-at-places g c =
@@ -21,7 +21,7 @@ returns-then-at-places g c =
     let x = get_or S p c.index-self-at.result in
     let within : p < min (length S) 4096 = omega arith in
     let at = slot_read 4096 S p c.index-self-at.result within in
-    let first : p ≡ index_where holding (take 4096 S) = c.holding-at.ensures ∙ ap (index_where holding) c.in-places.ensures in
+    let first : p ≡ index_where holding (take 4096 S) = c.holding-at.ensures ∙ ap (index_where holding) c.in_places.ensures in
     let here = and_parts (ltb 0 x.time) (same k x.key) (slot_passes holding 4096 S p c.index-self-at.result first within) in
     let some : 1 ≤ x.time = ltb-true 0 x.time here.0 in
     record {
@@ -45,13 +45,13 @@ returns-then-free-places g c =
     let S = c.args.self.now.slots.now in
     let holding = holds same k in
     let free = λ (e : Entry g.row.K.Denot). eqb e.time 0 in
-    let p = c.free-slot-free.result in
+    let p = c.free_slot-free.result in
     let x = get_or S p (at_time k t) in
     let within : p < min (length S) 4096 = omega arith in
     let at = slot_read 4096 S p (at_time k t) within in
-    let first : p ≡ index_where free (take 4096 S) = c.free-slot-free.ensures in
+    let first : p ≡ index_where free (take 4096 S) = c.free_slot-free.ensures in
     let none : x.time ≡ 0 = eqb-true x.time 0 (slot_passes free 4096 S p (at_time k t) first within) in
-    let past : c.holding-at.result ≡ index_where holding (take 4096 S) = c.holding-at.ensures ∙ ap (index_where holding) c.in-places.ensures in
+    let past : c.holding-at.result ≡ index_where holding (take 4096 S) = c.holding-at.ensures ∙ ap (index_where holding) c.in_places.ensures in
     let lack = slots_fail holding 4096 S c.holding-at.result past (omega arith) in
     record {
       rule = first_owes g.met.K.Key.lawful k t 4096 S c.occupy.new.self.slots.now p x at none lack c.occupy.ensures.slots;
@@ -76,8 +76,8 @@ returns g c =
     let S = c.args.self.now.slots.now in
     let holding = holds same k in
     let free = λ (e : Entry g.row.K.Denot). eqb e.time 0 in
-    let past : c.holding-at.result ≡ index_where holding (take 4096 S) = c.holding-at.ensures ∙ ap (index_where holding) c.in-places.ensures in
-    let full = slots_fail free 4096 S c.free-slot-free.result c.free-slot-free.ensures (omega arith) in
+    let past : c.holding-at.result ≡ index_where holding (take 4096 S) = c.holding-at.ensures ∙ ap (index_where holding) c.in_places.ensures in
+    let full = slots_fail free 4096 S c.free_slot-free.result c.free_slot-free.ensures (omega arith) in
     let lack = slots_fail holding 4096 S c.holding-at.result past (omega arith) in
     record {
       rule = refusal_owes g.met.K.Key.lawful k c.args.time 4096 S full lack;
