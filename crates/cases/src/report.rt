@@ -91,7 +91,7 @@ fn add_quoted(out: &mut String, line: &[u8]) -> Result<(), AllocError>
 // A row for each curve.
 fn add_rows<K: Key>(heap: Global, out: &mut String, keys: &[K]) -> Result<(), AllocError>
     requires { length keys.now ≤ 128 }
-    ensures { OnOk result (string_bytes out.new ≡ string_bytes out.old ++ rows_text same (reverse keys.now)) }
+    ensures { OnOk result (string_bytes out.new ≡ string_bytes out.old ++ rows_text K.same (reverse keys.now)) }
 {
     add_row(heap, out, keys, Curve::Totals)?;
     add_row(heap, out, keys, Curve::Windows)?;
@@ -110,7 +110,7 @@ fn add_row<K: Key>(
     curve: Curve,
 ) -> Result<(), AllocError>
     requires { length keys.now ≤ 128 }
-    ensures { OnOk result (string_bytes out.new ≡ string_bytes out.old ++ row_text same curve (reverse keys.now)) }
+    ensures { OnOk result (string_bytes out.new ≡ string_bytes out.old ++ row_text K.same curve (reverse keys.now)) }
 {
     out.push_str(label(curve))?;
     let end = end_index(curve, keys.len(), distinct_keys(keys));

@@ -20,7 +20,7 @@ pub(crate) fn value<K: Key>(
     i: usize,
 ) -> Result<Option<u128>, AllocError>
     requires { i ≤ length keys.now }
-    ensures { IfOk result (λ o. o ≡ value_of same curve i (reverse keys.now)) }
+    ensures { IfOk result (λ o. o ≡ value_of K.same curve i (reverse keys.now)) }
 {
     match curve {
         Curve::Totals => Ok(Some(footprint(keys, i).0)),
@@ -35,7 +35,7 @@ pub(crate) fn value<K: Key>(
 // The misses of a cache of a size, a copy of the keys being its memory.
 fn misses_at<K: Key>(heap: Global, keys: &[K], size: usize) -> Result<u128, AllocError>
     requires { size ≤ length keys.now }
-    ensures { IfOk result (λ m. m ≡ misses same size (reverse keys.now)) }
+    ensures { IfOk result (λ m. m ≡ misses K.same size (reverse keys.now)) }
 {
     let mut places = Vec::from_slice(heap, keys)?;
     Ok(lru_misses(keys, &mut places[0..size]) as u128)

@@ -8,7 +8,7 @@ use keys::Key;
 
 // The gap count of an entry: the gaps of that size, at all positions.
 pub fn gap_count<K: Key>(keys: &[K], size: usize) -> u128
-    ensures { result ≡ gap_count same size (reverse keys.now) }
+    ensures { result ≡ gap_count K.same size (reverse keys.now) }
 {
     let mut count = 0u128;
     for i in 0..keys.len() {
@@ -20,7 +20,7 @@ pub fn gap_count<K: Key>(keys: &[K], size: usize) -> u128
 // How many gaps of a size a position has: its interval, and at a key's first or last position the gap at that end.
 fn share<K: Key>(keys: &[K], position: usize, size: usize) -> u8
     requires { (1 ≤ position) × (position ≤ length keys.now) }
-    ensures { result ≡ share_of same keys.now size position }
+    ensures { result ≡ share_of K.same keys.now size position }
 {
     let former = greatest_same(keys, position, position - 1);
     let newest = greatest_same(keys, position, keys.len());

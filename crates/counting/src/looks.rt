@@ -10,7 +10,7 @@ use refusals::Refusal;
 
 // The interval of a position, counted from 1: none at a first access.
 pub fn interval<K: Key>(keys: &[K], position: usize) -> Result<Option<usize>, Refusal>
-    ensures { result ≡ interval_answer same position (reverse keys.now) }
+    ensures { result ≡ interval_answer K.same position (reverse keys.now) }
 {
     if !is_position(keys, position) {
         return Err(Refusal::NoSuchPosition);
@@ -20,7 +20,7 @@ pub fn interval<K: Key>(keys: &[K], position: usize) -> Result<Option<usize>, Re
 
 // The distance of a position, its own key counted: none at a first access.
 pub fn distance<K: Key>(keys: &[K], position: usize) -> Result<Option<usize>, Refusal>
-    ensures { result ≡ distance_answer same position (reverse keys.now) }
+    ensures { result ≡ distance_answer K.same position (reverse keys.now) }
 {
     if !is_position(keys, position) {
         return Err(Refusal::NoSuchPosition);
@@ -31,7 +31,7 @@ pub fn distance<K: Key>(keys: &[K], position: usize) -> Result<Option<usize>, Re
 // The position less the former one.
 fn interval_at<K: Key>(keys: &[K], position: usize) -> Option<usize>
     requires { (1 ≤ position) × (position ≤ length keys.now) }
-    ensures { result ≡ interval_at same position (reverse keys.now) }
+    ensures { result ≡ interval_at K.same position (reverse keys.now) }
 {
     let former = former_position(keys, position);
     if former == 0 {
@@ -43,7 +43,7 @@ fn interval_at<K: Key>(keys: &[K], position: usize) -> Option<usize>
 // The different keys from the former position on.
 fn distance_at<K: Key>(keys: &[K], position: usize) -> Option<usize>
     requires { (1 ≤ position) × (position ≤ length keys.now) }
-    ensures { result ≡ distance_at same position (reverse keys.now) }
+    ensures { result ≡ distance_at K.same position (reverse keys.now) }
 {
     let former = former_position(keys, position);
     if former == 0 {
@@ -63,7 +63,7 @@ fn is_position<K: Key>(keys: &[K], position: usize) -> bool
 // The greatest earlier position with the same key, or 0.
 fn former_position<K: Key>(keys: &[K], position: usize) -> usize
     requires { (1 ≤ position) × (position ≤ length keys.now) }
-    ensures value { result ≡ former_of same keys.now position }
+    ensures value { result ≡ former_of K.same keys.now position }
     ensures bound { result < position }
 {
     greatest_same(keys, position, position - 1)
@@ -72,7 +72,7 @@ fn former_position<K: Key>(keys: &[K], position: usize) -> usize
 // The greatest of the positions from 1 to `most` with the same key as a position, or 0.
 pub(crate) fn greatest_same<K: Key>(keys: &[K], position: usize, most: usize) -> usize
     requires { (1 ≤ position) × ((position ≤ length keys.now) × (most ≤ length keys.now)) }
-    ensures value { result ≡ greatest (same_at same keys.now position) most }
+    ensures value { result ≡ greatest (same_at K.same keys.now position) most }
     ensures bound { result ≤ most }
 {
     let mut p = most;

@@ -10,8 +10,8 @@ use keys::Key;
 // The misses of a cache with as many places as the slice has, empty at the start. The slice is the cache's memory:
 // it then holds the keys of the cache, the newest first, and behind them what it held before.
 pub fn lru_misses<K: Key>(keys: &[K], places: &mut [K]) -> usize
-    ensures misses { result ≡ misses same (length places.old) (reverse keys.now) }
-    ensures places { places.new ≡ memory_after same keys.now places.old }
+    ensures misses { result ≡ misses K.same (length places.old) (reverse keys.now) }
+    ensures places { places.new ≡ memory_after K.same keys.now places.old }
 {
     let mut missed = 0;
     let mut count = 0;
@@ -28,9 +28,9 @@ pub fn lru_misses<K: Key>(keys: &[K], places: &mut [K]) -> usize
 // One access of a cache that holds the first `count` keys of its places: whether it hits, and how many it then holds.
 fn access<K: Key>(places: &mut [K], count: usize, key: &K) -> (bool, usize)
     requires { count ≤ length places.old }
-    ensures hit { result.0 ≡ held same key.now (take count places.old) }
-    ensures count { result.1 ≡ length (accessed same (length places.old) key.now (take count places.old)) }
-    ensures places { places.new ≡ accessed same (length places.old) key.now (take count places.old) ++ drop result.1 places.old }
+    ensures hit { result.0 ≡ held K.same key.now (take count places.old) }
+    ensures count { result.1 ≡ length (accessed K.same (length places.old) key.now (take count places.old)) }
+    ensures places { places.new ≡ accessed K.same (length places.old) key.now (take count places.old) ++ drop result.1 places.old }
 {
     let at = find(&places[0..count], key);
     if at < count {

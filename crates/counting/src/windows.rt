@@ -7,8 +7,8 @@ use keys::Key;
 
 // The number of different keys.
 pub fn distinct_keys<K: Key>(keys: &[K]) -> usize
-    ensures slice { result ≡ distinct same keys.now }
-    ensures log { result ≡ distinct same (reverse keys.now) }
+    ensures slice { result ≡ distinct K.same keys.now }
+    ensures log { result ≡ distinct K.same (reverse keys.now) }
     ensures bound { result ≤ length keys.now }
 {
     let mut count = 0;
@@ -22,7 +22,7 @@ pub fn distinct_keys<K: Key>(keys: &[K]) -> usize
 
 // The footprint total of a window length, and the number of windows: 0 and 0 where it is longer than the burst.
 pub fn footprint<K: Key>(keys: &[K], window: usize) -> (u128, u128)
-    ensures total { result.0 ≡ total same window (reverse keys.now) }
+    ensures total { result.0 ≡ total K.same window (reverse keys.now) }
     ensures windows { result.1 ≡ length (windows window (reverse keys.now)) }
 {
     (footprint_total(keys, window), window_count(keys, window))
@@ -40,7 +40,7 @@ fn window_count<K: Key>(keys: &[K], window: usize) -> u128
 
 // The different keys of each window, counted afresh and added up.
 fn footprint_total<K: Key>(keys: &[K], window: usize) -> u128
-    ensures { result ≡ total same window (reverse keys.now) }
+    ensures { result ≡ total K.same window (reverse keys.now) }
 {
     if window > keys.len() {
         return 0;
