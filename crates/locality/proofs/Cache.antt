@@ -3,7 +3,7 @@ use Rattle.std.proofs.Common.{◌≡◌, ℕ, zero, suc, ◌+◌, ◌≤◌, Boo
 use mathlib.Core.Bool.{false≢true}
 use Rattle.std.proofs.lemmas.Bool.{cases_Bool}
 use Rattle.std.proofs.ByRecursion.{All-weaker}
-use Rattle.std.specs.List.{AllZip, AllByRecursion as All}
+use Rattle.std.specs.List.{AllZip, AllByRecursion}
 use Rattle.keys.specs.Sameness.{Lawful}
 use Rattle.locality.proofs.Sums.{count_above_table}
 use Rattle.locality.proofs.Sameness.{flip, right, stored_same, keys-others}
@@ -176,7 +176,7 @@ module _ {K : Type 0} {same : K → K → Bool} (laws : Lawful same) where
   since-distinct k [] = omega arith
   since-distinct k (x ∷ xs) = let r = since-distinct k xs in grind arith
 
-  pub distance_bounds : (log : List K) → All (λ d. d ≤ length log) (distances same log)
+  pub distance_bounds : (log : List K) → AllByRecursion (λ d. d ≤ length log) (distances same log)
   distance_bounds [] = tt
   distance_bounds (k ∷ past) =
       let b = since-distinct k past in

@@ -4,7 +4,7 @@ use mathlib.Core.Bool.{false≢true}
 use native.Mathlib.Nat.{eq_of_mul-eq-mul_right}
 use Rattle.std.proofs.lemmas.Bool.{cases_lt, cases_Bool}
 use Rattle.std.proofs.ByRecursion.{All-weaker}
-use Rattle.std.specs.List.{AllByRecursion as All}
+use Rattle.std.specs.List.{AllByRecursion}
 use Rattle.keys.specs.Sameness.{Lawful}
 use Rattle.locality.proofs.Sums.{no_zero, sum_over_none, sum_above_same, second}
 use Rattle.locality.proofs.Reuse.{since, distance-since}
@@ -47,7 +47,7 @@ module _ {K : Type 0} {same : K → K → Bool} (laws : Lawful same) where
   some_since k (x ∷ past) y = some_key x (cond (same k x) [] (since same k past))
 
   -- a distance counts the own key
-  distance_positive : (log : List K) → All (λ d. 1 ≤ d) (distances same log)
+  distance_positive : (log : List K) → AllByRecursion (λ d. 1 ≤ d) (distances same log)
   distance_positive [] = tt
   distance_positive (k ∷ past) =
       let r = distance_positive past in

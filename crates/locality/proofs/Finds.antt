@@ -1,7 +1,7 @@
 -- The first element of a list that passes a test, by its index. Assumes nothing.
 use Rattle.std.proofs.Common.{◌≡◌, ℕ, zero, suc, ◌+◌, ◌<◌, ◌≤◌, Bool, true, false, List, [], ◌∷◌, ◌++◌, length, get_or, take, drop, ap, ⊎_elim, arith}
 use Rattle.std.proofs.lemmas.Bool.{cases_Bool}
-use Rattle.std.specs.List.{AllByRecursion as All}
+use Rattle.std.specs.List.{AllByRecursion}
 use Rattle.locality.specs.Recency.{first_where, index_where, without}
 
 module _ {X : Type 0} (passes : X → Bool) where
@@ -15,7 +15,7 @@ module _ {X : Type 0} (passes : X → Bool) where
       (cases_Bool (passes x))
 
   -- where none is found, none passes
-  pub none_passes : (xs : List X) → length xs ≤ index_where passes xs → All (λ x. passes x ≡ false) xs
+  pub none_passes : (xs : List X) → length xs ≤ index_where passes xs → AllByRecursion (λ x. passes x ≡ false) xs
   none_passes [] h = tt
   none_passes (x ∷ xs) h =
       ⊎_elim

@@ -4,7 +4,7 @@ use mathlib.Core.Bool.{false≢true}
 use Rattle.std.proofs.lemmas.List.{reverse-append}
 use Rattle.std.proofs.lemmas.Bool.{cases_Bool}
 use Rattle.std.proofs.ByRecursion.{All-weaker}
-use Rattle.std.specs.List.{AllByRecursion as All}
+use Rattle.std.specs.List.{AllByRecursion}
 use Rattle.keys.specs.Sameness.{Lawful}
 use Rattle.locality.proofs.Sums.{sum_over_none, sum_over-map}
 use Rattle.locality.proofs.Sameness.{all_without, all_both, flip, left, right, held_same, held-reverse, stored_same, stored_absent, stored_all, stored-append, held-without, others_absent, keys-others}
@@ -15,7 +15,7 @@ use Rattle.locality.specs.Statements.{RecencyList, PutBackUndoes, DepthFromTimes
 use Rattle.locality.specs.declared.entry.Entry.{Entry}
 
 -- an entry later than every other goes in front
-pub placed_front : {K : Type 0} (e : Entry K) (es : List (Entry K)) → All (λ f. f.time < e.time) es → placed e es ≡ e ∷ es
+pub placed_front : {K : Type 0} (e : Entry K) (es : List (Entry K)) → AllByRecursion (λ f. f.time < e.time) es → placed e es ≡ e ∷ es
 placed_front e [] h = refl
 placed_front e (f ∷ fs) h = let g = h.0 in let t : ltb e.time f.time ≡ false = grind arith in rw t
 
@@ -54,7 +54,7 @@ module _ {K : Type 0} (same : K → K → Bool) where
       (λ (y : held same k (keys es) ≡ false). let a = time_absent k es y in rw (f, y) (sym a))
       (cases_Bool (held same k (keys es)))
 
-  pub time_all : (P : ℕ → Type 0) (k : K) (es : List (Entry K)) → All (λ f. P f.time) es → held same k (keys es) ≡ true → P (time_of k es)
+  pub time_all : (P : ℕ → Type 0) (k : K) (es : List (Entry K)) → AllByRecursion (λ f. P f.time) es → held same k (keys es) ≡ true → P (time_of k es)
   time_all P k [] h y = absurd (false≢true y)
   time_all P k (e ∷ es) h y =
       let r : held same k (keys es) ≡ true → P (time_of k es) = time_all P k es h.1 in
@@ -108,7 +108,7 @@ module _ {K : Type 0} {same : K → K → Bool} (laws : Lawful same) where
       grind arith
 
   -- times stand between 1 and n
-  pub recent-times : (log : List K) → All (λ e. (1 ≤ e.time) × (e.time ≤ length log)) (recent same log)
+  pub recent-times : (log : List K) → AllByRecursion (λ e. (1 ≤ e.time) × (e.time ≤ length log)) (recent same log)
   recent-times [] = tt
   recent-times (k ∷ past) =
       let n = length past in
@@ -127,7 +127,7 @@ module _ {K : Type 0} {same : K → K → Bool} (laws : Lawful same) where
       (cases_Bool (held same k past))
 
   -- without k no entry has its key
-  pub others_differ : (k : K) (es : List (Entry K)) → Apart same es → All (λ f. same k f.key ≡ false) (others same k es)
+  pub others_differ : (k : K) (es : List (Entry K)) → Apart same es → AllByRecursion (λ f. same k f.key ≡ false) (others same k es)
   others_differ k [] o = tt
   others_differ k (e ∷ es) o =
       let r = others_differ k es o.1 in
@@ -152,10 +152,10 @@ module _ {K : Type 0} {same : K → K → Bool} (laws : Lawful same) where
       ⊎_elim (λ (t : same k e.key ≡ true). rw t o.1) (λ (t : same k e.key ≡ false). rw t (a, r)) (cases_Bool (same k e.key))
 
   -- a touch at a time later than every entry's keeps a list orderly
-  pub touch-orderly : (k : K) (t : ℕ) (es : List (Entry K)) → Orderly same es → 1 ≤ t → All (λ e. e.time < t) es → Orderly same (touched same k t es)
+  pub touch-orderly : (k : K) (t : ℕ) (es : List (Entry K)) → Orderly same es → 1 ≤ t → AllByRecursion (λ e. e.time < t) es → Orderly same (touched same k t es)
   touch-orderly k t es o p l =
       let s = stored same k (keys es) in
-      let ne : All (λ f. same s f.key ≡ false) (others same k es)
+      let ne : AllByRecursion (λ f. same s f.key ≡ false) (others same k es)
       = All-weaker (λ f. same k f.key ≡ false) (λ f. same s f.key ≡ false) (λ f h. sym (left laws k s f.key (stored_same laws k (keys es))) ∙ h) (others same k es) (others_differ k es o.apart) in
       record {
         falling = (all_without (λ f. f.time < t) (λ f. same k f.key) es l, falling-others k es o.falling);
@@ -175,7 +175,7 @@ module _ {K : Type 0} {same : K → K → Bool} (laws : Lawful same) where
   unseen newer [] = []
   unseen newer (e ∷ es) = cond (held same e.key newer) [] (e ∷ []) ++ unseen newer es
 
-  unseen_absent : (k : K) (newer : List K) (es : List (Entry K)) → All (λ f. same k f.key ≡ false) es → unseen (k ∷ newer) es ≡ unseen newer es
+  unseen_absent : (k : K) (newer : List K) (es : List (Entry K)) → AllByRecursion (λ f. same k f.key ≡ false) es → unseen (k ∷ newer) es ≡ unseen newer es
   unseen_absent k newer [] h = refl
   unseen_absent k newer (e ∷ es) h = let r = unseen_absent k newer es h.1 in let f = flip laws k e.key in let g = h.0 in grind arith
 
@@ -216,11 +216,11 @@ module _ {K : Type 0} {same : K → K → Bool} (laws : Lawful same) where
       = ap (stored same e.key) (reverse-append (k ∷ []) past) ∙ stored-append laws e.key (reverse past) (k ∷ []) ∙ rw (a, y) in
       (grind arith, h.1 ∙ sym p)
 
-  key_all : (P : K → Type 0) (es : List (Entry K)) → All (λ e. P e.key) es → All P (keys es)
+  key_all : (P : K → Type 0) (es : List (Entry K)) → AllByRecursion (λ e. P e.key) es → AllByRecursion P (keys es)
   key_all P [] h = h
   key_all P (e ∷ es) h = (h.0, key_all P es h.1)
 
-  pub firsts-stored : (log : List K) → All (First log) (recent same log)
+  pub firsts-stored : (log : List K) → AllByRecursion (First log) (recent same log)
   firsts-stored [] = tt
   firsts-stored (k ∷ past) =
       let es = recent same past in
@@ -244,7 +244,7 @@ module _ {K : Type 0} {same : K → K → Bool} (laws : Lawful same) where
       (front, all_without (First (k ∷ past)) (λ e. same k e.key) es old)
 
   -- an entry has the time of its own key
-  own_times : (es : List (Entry K)) → Apart same es → All (λ e. e.time ≡ time_of same e.key es) es
+  own_times : (es : List (Entry K)) → Apart same es → AllByRecursion (λ e. e.time ≡ time_of same e.key es) es
   own_times [] o = tt
   own_times (e ∷ es) o =
       let x = laws.reflexive e.key in

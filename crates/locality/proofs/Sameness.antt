@@ -3,7 +3,7 @@ use Rattle.std.proofs.Common.{◌≡◌, ◌+◌, Bool, true, false, cond, ◌||
 use mathlib.Core.Bool.{false≢true}
 use Rattle.std.proofs.lemmas.List.{reverse-append}
 use Rattle.std.proofs.lemmas.Bool.{cases_Bool}
-use Rattle.std.specs.List.{AllByRecursion as All}
+use Rattle.std.specs.List.{AllByRecursion}
 use Rattle.keys.specs.Sameness.{Lawful}
 use Rattle.locality.specs.Log.{held, distinct}
 use Rattle.locality.specs.Recency.{without, stored, keys, others}
@@ -15,13 +15,13 @@ same_test false true f g = g refl
 same_test false false f g = refl
 
 -- what holds of every element holds without one
-pub all_without : {X : Type 0} (P : X → Type 0) (passes : X → Bool) (xs : List X) → All P xs → All P (without passes xs)
+pub all_without : {X : Type 0} (P : X → Type 0) (passes : X → Bool) (xs : List X) → AllByRecursion P xs → AllByRecursion P (without passes xs)
 all_without P passes [] h = h
 all_without P passes (x ∷ xs) h =
     let r = all_without P passes xs h.1 in
     ⊎_elim (λ (t : passes x ≡ true). rw t h.1) (λ (t : passes x ≡ false). rw t (h.0, r)) (cases_Bool (passes x))
 
-pub all_both : {X : Type 0} (P Q : X → Type 0) (xs : List X) → All P xs → All Q xs → All (λ x. P x × Q x) xs
+pub all_both : {X : Type 0} (P Q : X → Type 0) (xs : List X) → AllByRecursion P xs → AllByRecursion Q xs → AllByRecursion (λ x. P x × Q x) xs
 all_both P Q [] p q = tt
 all_both P Q (x ∷ xs) p q = ((p.0, q.0), all_both P Q xs p.1 q.1)
 
@@ -59,7 +59,7 @@ module _ {K : Type 0} {same : K → K → Bool} (laws : Lawful same) where
   stored_absent k (x ∷ xs) h = let r : held same k xs ≡ false → stored same k xs ≡ k = stored_absent k xs in grind arith
 
   -- what holds of every key of a list holds of the stored one
-  pub stored_all : (P : K → Type 0) (k : K) (xs : List K) → All P xs → held same k xs ≡ true → P (stored same k xs)
+  pub stored_all : (P : K → Type 0) (k : K) (xs : List K) → AllByRecursion P xs → held same k xs ≡ true → P (stored same k xs)
   stored_all P k [] h y = absurd (false≢true y)
   stored_all P k (x ∷ xs) h y =
       let r : held same k xs ≡ true → P (stored same k xs) = stored_all P k xs h.1 in

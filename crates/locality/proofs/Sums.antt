@@ -1,7 +1,7 @@
 -- Sums over lists, and over the entries of a table. Assumes nothing.
 use Rattle.std.proofs.Common.{◌≡◌, ℕ, zero, suc, ◌+◌, ◌-◌, ◌*◌, ◌<◌, ◌≤◌, cond, ltb, List, [], ◌∷◌, ◌++◌, map, refl, ap, ◌∙◌, ap₂, ⊎_elim, arith}
 use Rattle.std.proofs.lemmas.Bool.{cases_lt}
-use Rattle.std.specs.List.{AllByRecursion as All}
+use Rattle.std.specs.List.{AllByRecursion}
 use Rattle.locality.specs.Numbers.{sum_over, is_number, times, sum_above, count_above}
 
 pub sum_over-append : {X : Type 0} (f : X → ℕ) (xs ys : List X) → sum_over f (xs ++ ys) ≡ sum_over f xs + sum_over f ys
@@ -24,12 +24,12 @@ pub sum_over_zero : {X : Type 0} (xs : List X) → sum_over (λ x. 0) xs ≡ 0
 sum_over_zero [] = refl
 sum_over_zero (x ∷ xs) = omega (arith, sum_over_zero xs)
 
-pub sum_over_none : {X : Type 0} (f : X → ℕ) (xs : List X) → All (λ x. f x ≡ 0) xs → sum_over f xs ≡ 0
+pub sum_over_none : {X : Type 0} (f : X → ℕ) (xs : List X) → AllByRecursion (λ x. f x ≡ 0) xs → sum_over f xs ≡ 0
 sum_over_none f [] h = refl
 sum_over_none f (x ∷ xs) h = omega (arith, sum_over_none f xs h.1)
 
 -- numbers from 1 on have no 0 among them
-pub no_zero : (xs : List ℕ) → All (λ x. 1 ≤ x) xs → times 0 xs ≡ 0
+pub no_zero : (xs : List ℕ) → AllByRecursion (λ x. 1 ≤ x) xs → times 0 xs ≡ 0
 no_zero [] h = refl
 no_zero (x ∷ xs) h = let r = no_zero xs h.1 in let l = h.0 in grind arith
 
@@ -64,7 +64,7 @@ nothing : (f : ℕ → ℕ) (w n : ℕ) → sum_above w n (λ i. f i * 0) ≡ 0
 nothing f w zero = refl
 nothing f w (suc n) = let r = nothing f w n in grind arith
 
-weighted : (f : ℕ → ℕ) (w n : ℕ) (gs : List ℕ) → All (λ g. g ≤ n) gs → sum_above w n (λ i. f i * times i gs) ≡ sum_over (λ g. cond (ltb w g) (f g) 0) gs
+weighted : (f : ℕ → ℕ) (w n : ℕ) (gs : List ℕ) → AllByRecursion (λ g. g ≤ n) gs → sum_above w n (λ i. f i * times i gs) ≡ sum_over (λ g. cond (ltb w g) (f g) 0) gs
 weighted f w n [] h = nothing f w n
 weighted f w n (g ∷ gs) h =
     sum_above_same w n _ (λ i. f i * is_number i g + f i * times i gs) (λ i l. omega arith)
@@ -72,11 +72,11 @@ weighted f w n (g ∷ gs) h =
     ∙ ap₂ ◌+◌ (one f w n g h.0) (weighted f w n gs h.1)
 
 -- what lies beyond w
-pub table : (w n : ℕ) (gs : List ℕ) → All (λ g. g ≤ n) gs → sum_above w n (λ i. (i - w) * times i gs) ≡ sum_over (λ g. g - w) gs
+pub table : (w n : ℕ) (gs : List ℕ) → AllByRecursion (λ g. g ≤ n) gs → sum_above w n (λ i. (i - w) * times i gs) ≡ sum_over (λ g. g - w) gs
 table w n gs h = weighted (λ i. i - w) w n gs h ∙ sum_over_each (λ g. cond (ltb w g) (g - w) 0) (λ g. g - w) (λ g. grind arith) gs
 
 -- how many lie beyond w
-pub count_above_table : (w n : ℕ) (gs : List ℕ) → All (λ g. g ≤ n) gs → sum_above w n (λ i. times i gs) ≡ count_above w gs
+pub count_above_table : (w n : ℕ) (gs : List ℕ) → AllByRecursion (λ g. g ≤ n) gs → sum_above w n (λ i. times i gs) ≡ count_above w gs
 count_above_table w n gs h = sum_above_same w n (λ i. times i gs) (λ i. 1 * times i gs) (λ i l. omega arith) ∙ weighted (λ i. 1) w n gs h
 
 -- how often a number stands in a list, from the sums of what lies beyond w

@@ -2,7 +2,7 @@
 use Rattle.std.proofs.Common.{◌≡◌, ℕ, zero, suc, ◌+◌, ◌-◌, ◌*◌, ◌≤◌, Bool, true, false, cond, leb, List, [], ◌∷◌, ◌++◌, map, length, take, sym, refl, ap, ◌∙◌, subst, ⊎_elim, arith}
 use Rattle.std.proofs.lemmas.Bool.{cases_lt, cases_Bool}
 use Rattle.std.proofs.ByRecursion.{All-weaker, All-map, All-append}
-use Rattle.std.specs.List.{AllByRecursion as All}
+use Rattle.std.specs.List.{AllByRecursion}
 use Rattle.keys.specs.Sameness.{Lawful}
 use Rattle.locality.proofs.Sums.{sum_over_none, sum_over_each, sum_over-append, sum_over_zero, sum_over-map, table, sum_above_same}
 use Rattle.locality.proofs.Sameness.{all_without, others_absent}
@@ -61,7 +61,7 @@ module _ {K : Type 0} {same : K → K → Bool} (laws : Lawful same) where
   total_more w k past = grind arith
 
   -- one access more: the keys but k
-  shorter : (w n : ℕ) (es : List (Entry K)) → All (λ e. (1 ≤ e.time) × (e.time ≤ n)) es →
+  shorter : (w n : ℕ) (es : List (Entry K)) → AllByRecursion (λ e. (1 ≤ e.time) × (e.time ≤ n)) es →
       sum_over (λ e. inside w (suc n) e.time) es + sum_over (λ e. (suc (suc n) - e.time) - w) es
       ≡ sum_over (λ e. (suc n - e.time) - w) es + length es
   shorter w n [] h = refl
@@ -123,10 +123,10 @@ module _ {K : Type 0} {same : K → K → Bool} (laws : Lawful same) where
       ⊎_elim (λ l. small (omega arith)) large (cases_lt w (suc (suc n)))
 
   -- every gap stands in the table
-  wider : (n : ℕ) (gs : List ℕ) → All (λ g. (1 ≤ g) × (g ≤ n)) gs → All (λ g. (1 ≤ g) × (g ≤ suc n)) gs
+  wider : (n : ℕ) (gs : List ℕ) → AllByRecursion (λ g. (1 ≤ g) × (g ≤ n)) gs → AllByRecursion (λ g. (1 ≤ g) × (g ≤ suc n)) gs
   wider n gs h = All-weaker (λ g. (1 ≤ g) × (g ≤ n)) (λ g. (1 ≤ g) × (g ≤ suc n)) (λ g q. omega arith) gs h
 
-  pub interval_bounds : (log : List K) → All (λ g. (1 ≤ g) × (g ≤ length log)) (intervals same log)
+  pub interval_bounds : (log : List K) → AllByRecursion (λ g. (1 ≤ g) × (g ≤ length log)) (intervals same log)
   interval_bounds [] = tt
   interval_bounds (k ∷ past) =
       let r = wider (length past) _ (interval_bounds past) in
@@ -135,7 +135,7 @@ module _ {K : Type 0} {same : K → K → Bool} (laws : Lawful same) where
       (λ (y : held same k past ≡ false). rw y r)
       (cases_Bool (held same k past))
 
-  pub first_bounds : (log : List K) → All (λ g. (1 ≤ g) × (g ≤ length log)) (firsts same log)
+  pub first_bounds : (log : List K) → AllByRecursion (λ g. (1 ≤ g) × (g ≤ length log)) (firsts same log)
   first_bounds [] = tt
   first_bounds (k ∷ past) =
       let r = wider (length past) _ (first_bounds past) in
@@ -153,20 +153,20 @@ module _ {K : Type 0} {same : K → K → Bool} (laws : Lawful same) where
       ∙ sum_over-map f gap (map (λ e. e.time) (recent same log))
       ∙ sum_over-map (λ l. f (gap l)) (λ e. e.time) (recent same log)
 
-  pub last_bounds : (log : List K) → All (λ g. (1 ≤ g) × (g ≤ length log)) (last_gaps same log)
+  pub last_bounds : (log : List K) → AllByRecursion (λ g. (1 ≤ g) × (g ≤ length log)) (last_gaps same log)
   last_bounds log =
       let n = length log in
       let P : ℕ → Type 0 = λ g. (1 ≤ g) × (g ≤ n) in
       let gap = λ (l : ℕ). suc n - l in
-      let t : All (λ l. (1 ≤ l) × (l ≤ n)) (lasts same log)
-      = subst (All (λ l. (1 ≤ l) × (l ≤ n))) (times-lasts laws log) (All-map (λ l. (1 ≤ l) × (l ≤ n)) (λ e. e.time) (recent same log) (recent-times laws log)) in
+      let t : AllByRecursion (λ l. (1 ≤ l) × (l ≤ n)) (lasts same log)
+      = subst (AllByRecursion (λ l. (1 ≤ l) × (l ≤ n))) (times-lasts laws log) (All-map (λ l. (1 ≤ l) × (l ≤ n)) (λ e. e.time) (recent same log) (recent-times laws log)) in
       All-map P gap (lasts same log) (All-weaker (λ l. (1 ≤ l) × (l ≤ n)) (λ l. P (gap l)) (λ l q. omega arith) (lasts same log) t)
 
   -- the gaps as one list
   abbrev pub gaps : List K → List ℕ
   gaps log = intervals same log ++ (firsts same log ++ last_gaps same log)
 
-  pub gap_bounds : (log : List K) → All (λ g. (1 ≤ g) × (g ≤ length log)) (gaps log)
+  pub gap_bounds : (log : List K) → AllByRecursion (λ g. (1 ≤ g) × (g ≤ length log)) (gaps log)
   gap_bounds log =
       let P : ℕ → Type 0 = λ g. (1 ≤ g) × (g ≤ length log) in
       All-append P _ _ (interval_bounds log) (All-append P _ _ (first_bounds log) (last_bounds log))
@@ -185,7 +185,7 @@ module _ {K : Type 0} {same : K → K → Bool} (laws : Lawful same) where
       let l = last_sum f log in
       rw (s, l) r
 
-  pub fit : (log : List K) → All (λ g. g ≤ length log) (gaps log)
+  pub fit : (log : List K) → AllByRecursion (λ g. g ≤ length log) (gaps log)
   fit log = All-weaker (λ g. (1 ≤ g) × (g ≤ length log)) (λ g. g ≤ length log) (λ g h. h.1) (gaps log) (gap_bounds log)
 
   -- the same over the gap table

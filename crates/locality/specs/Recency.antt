@@ -1,7 +1,7 @@
 -- The recency list: what has been accessed, newest first, and what a touch and a put back make of it.
 -- Its entries are keys with times; the time of an access is its position.
 use Rattle.std.specs.Prelude.{◌≡◌, ℕ, suc, ◌<◌, ◌≤◌, Bool, false, cond, not, List, [], ◌∷◌, map, length, Some, None, Option, ◌==◌, nat_lt}
-use Rattle.std.specs.List.{prefix_len, AllByRecursion as All}
+use Rattle.std.specs.List.{prefix_len, AllByRecursion}
 use Rattle.locality.specs.declared.entry.Entry.{Entry}
 
 -- the entry of a key and a time
@@ -43,18 +43,18 @@ put_back t (e ∷ es) = cond (t == 0) es (placed (at_time e.key t) es)
 -- times that fall from the front on: newest first
 abbrev pub Falling : {K : Type 0} → List (Entry K) → Type 0
 Falling [] = Unit {0}
-Falling (e ∷ es) = All (λ f. f.time < e.time) es × Falling es
+Falling (e ∷ es) = AllByRecursion (λ f. f.time < e.time) es × Falling es
 
 -- no two entries with the same key
 abbrev pub Apart : {K : Type 0} → (K → K → Bool) → List (Entry K) → Type 0
 Apart same [] = Unit {0}
-Apart same (e ∷ es) = All (λ f. same e.key f.key ≡ false) es × Apart same es
+Apart same (e ∷ es) = AllByRecursion (λ f. same e.key f.key ≡ false) es × Apart same es
 
 -- a recency list as touches and put backs keep it: newest first, each key once, times from 1
 pub record Orderly {K : Type 0} (same : K → K → Bool) (es : List (Entry K)) : Type 0 where
   pub falling : Falling es
   pub apart : Apart same es
-  pub timed : All (λ e. 1 ≤ e.time) es
+  pub timed : AllByRecursion (λ e. 1 ≤ e.time) es
 
 -- the time to put back after a touch that answered this: the former time, 0 after a first touch
 abbrev pub former_time : Option (ℕ × ℕ) → ℕ

@@ -1,7 +1,7 @@
 -- The theorems, each a statement about every log of a key kind, told by its sameness.
 use Rattle.std.specs.Prelude.{◌≡◌, ℕ, suc, ◌+◌, ◌-◌, ◌*◌, ◌≤◌, Bool, true, ◌↔◌, List, [], ◌∷◌, reverse, length, Some, Ok, Option}
 use Rattle.std.specs.Option.{option_map}
-use Rattle.std.specs.List.{AllByRecursion as All}
+use Rattle.std.specs.List.{AllByRecursion}
 use Rattle.locality.specs.declared.call.Call.{Call}
 use Rattle.locality.specs.declared.entry.Entry.{Entry}
 use Rattle.locality.specs.Numbers.{count_above, sum_above}
@@ -57,8 +57,8 @@ pub record RecencyList {K : Type 0} (same : K → K → Bool) (log : List K) : T
   pub holds : (k : K) → held same k (keys (recent same log)) ≡ held same k log
   pub once : length (recent same log) ≡ distinct same log
   pub last : times_of (recent same log) ≡ lasts same log
-  pub under_last : All (λ e. e.time ≡ former same e.key log) (recent same log)
-  pub first_stored : All (λ e. e.key ≡ stored same e.key (reverse log)) (recent same log)
+  pub under_last : AllByRecursion (λ e. e.time ≡ former same e.key log) (recent same log)
+  pub first_stored : AllByRecursion (λ e. e.key ≡ stored same e.key (reverse log)) (recent same log)
 
 -- a put back of the former time after a touch gives the list before it, on every orderly list and so on every log's
 abbrev pub PutBackUndoes : {K : Type 0} → (K → K → Bool) → Type 0

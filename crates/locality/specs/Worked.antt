@@ -1,6 +1,6 @@
 -- Bursts worked out by hand. A letter is a key, and the accesses stand oldest first.
 use Rattle.std.specs.Prelude.{◌≡◌, ℕ, suc, Bool, true, false, List, [], ◌∷◌, map, reverse, length, replicate, Some, None, Ok, Err, Option, Result, nat_eq}
-use Rattle.std.specs.List.{range_with_len, AllByRecursion as All}
+use Rattle.std.specs.List.{range_with_len, AllByRecursion}
 use Rattle.refusals.specs.declared.Refusal.{Refusal}
 use Rattle.refusals.specs.declared.Refusal.TheVariants.{SizeAboveKeys}
 use Rattle.refusals.specs.Numbers.{number_of}
@@ -59,8 +59,8 @@ Holds (placed accesses t interval distance) =
     (numbered (interval_answer nat_eq t (reverse accesses)) ≡ interval)
     × (numbered (distance_answer nat_eq t (reverse accesses)) ≡ distance)
 Holds (filled accesses c lengths others) =
-    All (λ w. FillAnswer nat_eq c (reverse accesses) (Ok w)) lengths
-    × All (λ w. FillAnswer nat_eq c (reverse accesses) (Ok w) → ⊥) others
+    AllByRecursion (λ w. FillAnswer nat_eq c (reverse accesses) (Ok w)) lengths
+    × AllByRecursion (λ w. FillAnswer nat_eq c (reverse accesses) (Ok w) → ⊥) others
 Holds (unfilled accesses c number) =
     FillAnswer nat_eq c (reverse accesses) (Err SizeAboveKeys)
     × ((w : ℕ) → FillAnswer nat_eq c (reverse accesses) (Ok w) → ⊥)
@@ -122,4 +122,4 @@ rows =
 
 -- every case holds
 abbrev pub WorkedBursts : Type 0
-WorkedBursts = All Holds rows
+WorkedBursts = AllByRecursion Holds rows

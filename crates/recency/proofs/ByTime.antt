@@ -1,6 +1,6 @@
 -- Entries by falling time: one entry put in or taken out, where it stands, and what the rules make of it. Assumes nothing.
 use Rattle.std.proofs.Common.{◌≡◌, ℕ, zero, suc, ◌+◌, ◌<◌, ◌≤◌, Bool, true, false, ltb, leb, List, [], ◌∷◌, ◌++◌, length, get_or, Some, None, sym, refl, ap, ◌∙◌, subst, ap₂, ⊎_elim, arith}
-use Rattle.std.specs.List.{AllByRecursion as All, slice_get}
+use Rattle.std.specs.List.{AllByRecursion, slice_get}
 use Rattle.std.specs.List.Sorted.{IsPermutation}
 use Rattle.std.proofs.ByRecursion.{All-weaker, All-get_or, All-take, all_shuffled}
 use Rattle.std.proofs.lemmas.List.{take_at}
@@ -19,7 +19,7 @@ use Rattle.recency.specs.ByTime.{by_time, NotRising, SortedByTime}
 use Rattle.recency.proofs.Keeps.{all_placed}
 
 -- what holds of a list holds of one of its elements and of the others
-pub all_middle : {X : Type 0} (P : X → Type 0) (xs : List X) (x : X) (ys : List X) → All P (xs ++ x ∷ ys) → P x × All P (xs ++ ys)
+pub all_middle : {X : Type 0} (P : X → Type 0) (xs : List X) (x : X) (ys : List X) → AllByRecursion P (xs ++ x ∷ ys) → P x × AllByRecursion P (xs ++ ys)
 all_middle P [] x ys h = h
 all_middle P (y ∷ xs) x ys h = let r = all_middle P xs x ys h.1 in (r.0, (h.0, r.1))
 
@@ -57,15 +57,15 @@ module _ {K : Type 0} where
   length_by_time es = length_permutation es (by_time es) (sorted_by_time es).permuted
 
   -- what holds of the entries by time holds of the entries
-  pub all_unordered : (P : Entry K → Type 0) (es : List (Entry K)) → All P (by_time es) → All P es
+  pub all_unordered : (P : Entry K → Type 0) (es : List (Entry K)) → AllByRecursion P (by_time es) → AllByRecursion P es
   all_unordered P es h = all_shuffled P (by_time es) es (IsPermutation-sym es (by_time es) (sorted_by_time es).permuted) h
 
   -- and the other way round
-  pub all_by_time : (P : Entry K → Type 0) (es : List (Entry K)) → All P es → All P (by_time es)
+  pub all_by_time : (P : Entry K → Type 0) (es : List (Entry K)) → AllByRecursion P es → AllByRecursion P (by_time es)
   all_by_time P es h = all_shuffled P es (by_time es) (sorted_by_time es).permuted h
 
   -- what holds of a list with an entry put in holds of the entry and of the list
-  pub placed_all : (P : Entry K → Type 0) (e : Entry K) (es : List (Entry K)) → All P (placed e es) → P e × All P es
+  pub placed_all : (P : Entry K → Type 0) (e : Entry K) (es : List (Entry K)) → AllByRecursion P (placed e es) → P e × AllByRecursion P es
   placed_all P e es h = all_shuffled P (placed e es) (e ∷ es) (IsPermutation-sym (e ∷ es) (placed e es) (shuffled_placed e es)) h
 
   earlier_first : (a b : Entry K) (es : List (Entry K)) → a.time < b.time → placed a (placed b es) ≡ placed b (placed a es)
@@ -93,26 +93,26 @@ module _ {K : Type 0} where
       (cases_order a.time b.time)
 
   -- in a list that falls, an entry that was put in has a time of its own
-  pub falling_out : (e : Entry K) (es : List (Entry K)) → Falling (placed e es) → All (λ x. x.time ≡ e.time → ⊥) es × Falling es
+  pub falling_out : (e : Entry K) (es : List (Entry K)) → Falling (placed e es) → AllByRecursion (λ x. x.time ≡ e.time → ⊥) es × Falling es
   falling_out e [] h = (tt, tt)
   falling_out e (x ∷ xs) h =
       ⊎_elim
       (λ (l : e.time < x.time).
-      let h' : All (λ y. y.time < x.time) (placed e xs) × Falling (placed e xs) = rw (lt-ltb e.time x.time l) at h in
+      let h' : AllByRecursion (λ y. y.time < x.time) (placed e xs) × Falling (placed e xs) = rw (lt-ltb e.time x.time l) at h in
       let r = falling_out e xs h'.1 in
       (((λ (q : x.time ≡ e.time). omega arith), r.0), ((placed_all (λ y. y.time < x.time) e xs h'.0).1, r.1)))
       (λ (l : x.time ≤ e.time).
-      let h' : All (λ y. y.time < e.time) (x ∷ xs) × Falling (x ∷ xs) = rw (le-ltb e.time x.time l) at h in
+      let h' : AllByRecursion (λ y. y.time < e.time) (x ∷ xs) × Falling (x ∷ xs) = rw (le-ltb e.time x.time l) at h in
       (All-weaker (λ y. y.time < e.time) (λ y. y.time ≡ e.time → ⊥) (λ y m q. omega arith) (x ∷ xs) h'.0, h'.1))
       (cases_lt e.time x.time)
 
   -- an entry among others, at a time that those before it do not have
-  by_time_in : (xs : List (Entry K)) (x : Entry K) (ys : List (Entry K)) → All (λ y. y.time ≡ x.time → ⊥) xs → by_time (xs ++ x ∷ ys) ≡ placed x (by_time (xs ++ ys))
+  by_time_in : (xs : List (Entry K)) (x : Entry K) (ys : List (Entry K)) → AllByRecursion (λ y. y.time ≡ x.time → ⊥) xs → by_time (xs ++ x ∷ ys) ≡ placed x (by_time (xs ++ ys))
   by_time_in [] x ys h = refl
   by_time_in (e ∷ xs) x ys h = ap (placed e) (by_time_in xs x ys h.1) ∙ placed_either e x (by_time (xs ++ ys)) h.0
 
   -- where the times fall, no other entry has its time
-  pub own_time : (xs : List (Entry K)) (x : Entry K) (ys : List (Entry K)) → Falling (by_time (xs ++ x ∷ ys)) → All (λ y. y.time ≡ x.time → ⊥) (xs ++ ys)
+  pub own_time : (xs : List (Entry K)) (x : Entry K) (ys : List (Entry K)) → Falling (by_time (xs ++ x ∷ ys)) → AllByRecursion (λ y. y.time ≡ x.time → ⊥) (xs ++ ys)
   own_time [] x ys f = all_unordered (λ y. y.time ≡ x.time → ⊥) ys (falling_out x (by_time ys) f).0
   own_time (e ∷ xs) x ys f =
       let r = falling_out e (by_time (xs ++ x ∷ ys)) f in
@@ -120,13 +120,13 @@ module _ {K : Type 0} where
       ((λ (q : e.time ≡ x.time). n.0 (sym q)), own_time xs x ys r.1)
 
   -- an entry among others, at a time that none of them has
-  pub by_time_new : (xs : List (Entry K)) (x : Entry K) (ys : List (Entry K)) → All (λ y. y.time ≡ x.time → ⊥) (xs ++ ys) → by_time (xs ++ x ∷ ys) ≡ placed x (by_time (xs ++ ys))
+  pub by_time_new : (xs : List (Entry K)) (x : Entry K) (ys : List (Entry K)) → AllByRecursion (λ y. y.time ≡ x.time → ⊥) (xs ++ ys) → by_time (xs ++ x ∷ ys) ≡ placed x (by_time (xs ++ ys))
   by_time_new xs x ys h =
       let P : Entry K → Type 0 = λ y. y.time ≡ x.time → ⊥ in
-      by_time_in xs x ys (subst (All P) (take_at xs ys (length xs) refl) (All-take P (length xs) (xs ++ ys) h))
+      by_time_in xs x ys (subst (AllByRecursion P) (take_at xs ys (length xs) refl) (All-take P (length xs) (xs ++ ys) h))
 
   -- and later than all of them
-  pub by_time_newest : (xs : List (Entry K)) (x : Entry K) (ys : List (Entry K)) → All (λ y. y.time < x.time) (xs ++ ys) → by_time (xs ++ x ∷ ys) ≡ x ∷ by_time (xs ++ ys)
+  pub by_time_newest : (xs : List (Entry K)) (x : Entry K) (ys : List (Entry K)) → AllByRecursion (λ y. y.time < x.time) (xs ++ ys) → by_time (xs ++ x ∷ ys) ≡ x ∷ by_time (xs ++ ys)
   by_time_newest xs x ys h =
       by_time_new xs x ys (All-weaker (λ y. y.time < x.time) (λ y. y.time ≡ x.time → ⊥) (λ y l q. omega arith) (xs ++ ys) h)
       ∙ placed_front x (by_time (xs ++ ys)) (all_by_time (λ y. y.time < x.time) (xs ++ ys) h)
@@ -148,7 +148,7 @@ module _ {K : Type 0} where
   count_by_time t [] = refl
   count_by_time t (e ∷ es) = omega (arith, count_placed t e (by_time es), count_by_time t es)
 
-  count_none : (t : ℕ) (es : List (Entry K)) → All (λ x. x.time ≤ t) es → count_above t (times_of es) ≡ 0
+  count_none : (t : ℕ) (es : List (Entry K)) → AllByRecursion (λ x. x.time ≤ t) es → count_above t (times_of es) ≡ 0
   count_none t [] h = refl
   count_none t (e ∷ es) h = rw (le-ltb t e.time h.0) (omega (arith, count_none t es h.1))
 
@@ -197,7 +197,7 @@ module _ {K : Type 0} where
       ap (slice_get (placed x es)) at ∙ nth_placed x es
 
   -- where no entry has j − 1 later ones, there is no j-th
-  pub entry_none : (es : List (Entry K)) (j : ℕ) → Falling es → All (λ e. count_above e.time (times_of es) + 1 ≡ j → ⊥) es → key_at es j ≡ None
+  pub entry_none : (es : List (Entry K)) (j : ℕ) → Falling es → AllByRecursion (λ e. count_above e.time (times_of es) + 1 ≡ j → ⊥) es → key_at es j ≡ None
   entry_none es zero f h = refl
   entry_none [] (suc i) f h = refl
   entry_none (e ∷ es) (suc i) f h =
@@ -209,7 +209,7 @@ module _ {K : Type 0} where
 
   module _ (same : K → K → Bool) (k : K) where
     -- a key that no entry has
-    pub held_none : (es : List (Entry K)) → All (λ e. same k e.key ≡ false) es → held same k (keys es) ≡ false
+    pub held_none : (es : List (Entry K)) → AllByRecursion (λ e. same k e.key ≡ false) es → held same k (keys es) ≡ false
     held_none [] h = refl
     held_none (e ∷ es) h = rw h.0 (held_none es h.1)
 
@@ -223,7 +223,7 @@ module _ {K : Type 0} where
           (λ (l : y.time ≤ x.time). rw (le-ltb x.time y.time l, has))
           (cases_lt x.time y.time)
 
-      pub found-placed : (es : List (Entry K)) → All (λ y. same k y.key ≡ false) es → found same k (placed x es) ≡ Some (suc (index_where (λ y. leb y.time x.time) es), x.time)
+      pub found-placed : (es : List (Entry K)) → AllByRecursion (λ y. same k y.key ≡ false) es → found same k (placed x es) ≡ Some (suc (index_where (λ y. leb y.time x.time) es), x.time)
       found-placed [] h = rw has
       found-placed (y ∷ ys) h =
           ⊎_elim
@@ -233,7 +233,7 @@ module _ {K : Type 0} where
           (λ (l : y.time ≤ x.time). rw (le-ltb x.time y.time l, le-leb y.time x.time l, has))
           (cases_lt x.time y.time)
 
-      stored-placed : (es : List (Entry K)) → All (λ y. same k y.key ≡ false) es → stored same k (keys (placed x es)) ≡ x.key
+      stored-placed : (es : List (Entry K)) → AllByRecursion (λ y. same k y.key ≡ false) es → stored same k (keys (placed x es)) ≡ x.key
       stored-placed [] h = rw has
       stored-placed (y ∷ ys) h =
           ⊎_elim
@@ -241,7 +241,7 @@ module _ {K : Type 0} where
           (λ (l : y.time ≤ x.time). rw (le-ltb x.time y.time l, has))
           (cases_lt x.time y.time)
 
-      others-placed : (es : List (Entry K)) → All (λ y. same k y.key ≡ false) es → others same k (placed x es) ≡ es
+      others-placed : (es : List (Entry K)) → AllByRecursion (λ y. same k y.key ≡ false) es → others same k (placed x es) ≡ es
       others-placed [] h = rw has
       others-placed (y ∷ ys) h =
           ⊎_elim
@@ -249,23 +249,23 @@ module _ {K : Type 0} where
           (λ (l : y.time ≤ x.time). rw (le-ltb x.time y.time l, has))
           (cases_lt x.time y.time)
 
-      pub touched-placed : (t : ℕ) (es : List (Entry K)) → All (λ y. same k y.key ≡ false) es → touched same k t (placed x es) ≡ at_time x.key t ∷ es
+      pub touched-placed : (t : ℕ) (es : List (Entry K)) → AllByRecursion (λ y. same k y.key ≡ false) es → touched same k t (placed x es) ≡ at_time x.key t ∷ es
       touched-placed t es h = ap₂ (λ z zs. at_time z t ∷ zs) (stored-placed es h) (others-placed es h)
 
 module _ {K : Type 0} {same : K → K → Bool} (laws : Lawful same) where
-  apart_out : (e : Entry K) (es : List (Entry K)) → Apart same (placed e es) → All (λ y. same e.key y.key ≡ false) es
+  apart_out : (e : Entry K) (es : List (Entry K)) → Apart same (placed e es) → AllByRecursion (λ y. same e.key y.key ≡ false) es
   apart_out e [] h = tt
   apart_out e (x ∷ xs) h =
       ⊎_elim
       (λ (l : e.time < x.time).
-      let h' : All (λ y. same x.key y.key ≡ false) (placed e xs) × Apart same (placed e xs) = rw (lt-ltb e.time x.time l) at h in
+      let h' : AllByRecursion (λ y. same x.key y.key ≡ false) (placed e xs) × Apart same (placed e xs) = rw (lt-ltb e.time x.time l) at h in
       (flip laws e.key x.key ∙ (placed_all (λ y. same x.key y.key ≡ false) e xs h'.0).0, apart_out e xs h'.1))
       (λ (l : x.time ≤ e.time).
-      let h' : All (λ y. same e.key y.key ≡ false) (x ∷ xs) × Apart same (x ∷ xs) = rw (le-ltb e.time x.time l) at h in
+      let h' : AllByRecursion (λ y. same e.key y.key ≡ false) (x ∷ xs) × Apart same (x ∷ xs) = rw (le-ltb e.time x.time l) at h in
       h'.0)
       (cases_lt e.time x.time)
 
   -- where each key stands once, no other entry has the key of the one put in
-  pub alone : (k : K) (x : Entry K) (es : List (Entry K)) → same k x.key ≡ true → Apart same (placed x es) → All (λ y. same k y.key ≡ false) es
+  pub alone : (k : K) (x : Entry K) (es : List (Entry K)) → same k x.key ≡ true → Apart same (placed x es) → AllByRecursion (λ y. same k y.key ≡ false) es
   alone k x es has a =
       All-weaker (λ y. same x.key y.key ≡ false) (λ y. same k y.key ≡ false) (λ y n. left laws k x.key y.key has ∙ n) es (apart_out x es a)

@@ -2,7 +2,7 @@
 use Rattle.std.proofs.Common.{◌≡◌, ℕ, suc, ◌<◌, ◌≤◌, Bool, true, false, ◌&&◌, ◌||◌, eqb, ltb, List, [], ◌∷◌, length, Ok, Err, Option, Result, sym, refl, ap, ◌∙◌, subst, ⊎_elim, arith}
 use Rattle.std.proofs.lemmas.Bool.{cases_Bool, ltb-true, ltb-false, eqb-false, cond-true, cond-false}
 use Rattle.std.proofs.ByRecursion.{All-weaker}
-use Rattle.std.specs.List.{AllByRecursion as All}
+use Rattle.std.specs.List.{AllByRecursion}
 use Rattle.keys.specs.Sameness.{Lawful}
 use Rattle.refusals.specs.declared.Refusal.{Refusal}
 use Rattle.refusals.specs.declared.Refusal.TheVariants.{NoPlace}
@@ -16,7 +16,7 @@ use Rattle.recency.specs.Rules.{Later, Returns, Kept, has_room, touch_answer, to
 
 module _ {K : Type 0} where
   -- what holds of an entry and of a list holds of the list with the entry put in
-  pub all_placed : (P : Entry K → Type 0) (e : Entry K) (es : List (Entry K)) → P e → All P es → All P (placed e es)
+  pub all_placed : (P : Entry K → Type 0) (e : Entry K) (es : List (Entry K)) → P e → AllByRecursion P es → AllByRecursion P (placed e es)
   all_placed P e [] p h = (p, tt)
   all_placed P e (x ∷ xs) p h =
       ⊎_elim
@@ -28,7 +28,7 @@ module _ {K : Type 0} where
   length-placed e [] = refl
   length-placed e (x ∷ xs) = let r = length-placed e xs in grind arith
 
-  falling-placed : (e : Entry K) (es : List (Entry K)) → All (λ x. x.time ≡ e.time → ⊥) es → Falling es → Falling (placed e es)
+  falling-placed : (e : Entry K) (es : List (Entry K)) → AllByRecursion (λ x. x.time ≡ e.time → ⊥) es → Falling es → Falling (placed e es)
   falling-placed e [] n f = (tt, tt)
   falling-placed e (x ∷ xs) n f =
       ⊎_elim
@@ -42,7 +42,7 @@ module _ {K : Type 0} where
       (cases_Bool (ltb e.time x.time))
 
 module _ {K : Type 0} {same : K → K → Bool} (laws : Lawful same) where
-  apart-placed : (e : Entry K) (es : List (Entry K)) → All (λ x. same e.key x.key ≡ false) es → Apart same es → Apart same (placed e es)
+  apart-placed : (e : Entry K) (es : List (Entry K)) → AllByRecursion (λ x. same e.key x.key ≡ false) es → Apart same es → Apart same (placed e es)
   apart-placed e [] n f = (tt, tt)
   apart-placed e (x ∷ xs) n f =
       ⊎_elim
@@ -111,7 +111,7 @@ module _ {K : Type 0} {same : K → K → Bool} (laws : Lawful same) where
   }
 
   -- no other entry has the time of a key
-  times_differ : (k : K) (es : List (Entry K)) → Falling es → held same k (keys es) ≡ true → All (λ f. f.time ≡ time_of same k es → ⊥) (others same k es)
+  times_differ : (k : K) (es : List (Entry K)) → Falling es → held same k (keys es) ≡ true → AllByRecursion (λ f. f.time ≡ time_of same k es → ⊥) (others same k es)
   times_differ k [] o y = tt
   times_differ k (e ∷ es) o y =
       ⊎_elim
@@ -131,7 +131,7 @@ module _ {K : Type 0} {same : K → K → Bool} (laws : Lawful same) where
       = ⊎_elim (λ (y : held same k (keys es) ≡ true). y) (λ (n : held same k (keys es) ≡ false). absurd (omega (arith, time_absent same k es n))) (cases_Bool (held same k (keys es))) in
       let low : time_of same k es < t = time_all same (λ x. x < t) k es l.newest y in
       let differ = times_differ k es o.orderly.falling y in
-      subst (λ (x : ℕ). (x < t) × All (λ e. e.time ≡ x → ⊥) (touched same k t es)) (sym f) (low, ((λ (q : t ≡ time_of same k es). omega arith), differ))
+      subst (λ (x : ℕ). (x < t) × AllByRecursion (λ e. e.time ≡ x → ⊥) (touched same k t es)) (sym f) (low, ((λ (q : t ≡ time_of same k es). omega arith), differ))
 
   pub touch_undone : (k : K) (t : ℕ) (es : List (Entry K)) → Orderly same es → put_back (former_time (found same k es)) (touched same k t es) ≡ es
   touch_undone = (undone laws).0

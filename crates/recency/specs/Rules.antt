@@ -1,7 +1,7 @@
 -- The rules of a recency store: what it answers, what becomes of its list, and the premises of its calls.
 -- A list has the entries newest first. What a touch and a put back make of a list is said in locality, specs/Recency.antt.
 use Rattle.std.specs.Prelude.{◌≡◌, ℕ, ◌<◌, ◌≤◌, min, Bool, cond, ◌||◌, List, [], ◌∷◌, length, Some, None, Ok, Err, Option, Result, ◌≢◌, nat_lt}
-use Rattle.std.specs.List.{AllByRecursion as All}
+use Rattle.std.specs.List.{AllByRecursion}
 use Rattle.refusals.specs.declared.Refusal.{Refusal}
 use Rattle.refusals.specs.declared.Refusal.TheVariants.{NoPlace}
 use Rattle.locality.specs.declared.entry.Entry.{Entry}
@@ -26,19 +26,19 @@ stored_or (Some e) k = e.key
 pub record Later {K : Type 0} (t : ℕ) (es : List (Entry K)) : Type 0 where
   pub some : 1 ≤ t
   pub most : t ≤ most_accesses
-  pub newest : All (λ e. e.time < t) es
+  pub newest : AllByRecursion (λ e. e.time < t) es
 
 -- the premise of a put back of the time t: the list is not empty, and a time other than 0 is earlier than the front's and
 -- no entry has it (0 asks nothing more)
 abbrev pub Returns : {K : Type 0} → ℕ → List (Entry K) → Type 0
 Returns t [] = ⊥
-Returns t (e ∷ es) = 1 ≤ t → (t < e.time) × All (λ f. f.time ≢ t) (e ∷ es)
+Returns t (e ∷ es) = 1 ≤ t → (t < e.time) × AllByRecursion (λ f. f.time ≢ t) (e ∷ es)
 
 -- a list as the rules keep it under the premises: newest first, each key once, times from 1 to 4,096, no more entries
 -- than places
 pub record Kept {K : Type 0} (same : K → K → Bool) (places : ℕ) (es : List (Entry K)) : Type 0 where
   pub orderly : Orderly same es
-  pub early : All (λ e. e.time ≤ most_accesses) es
+  pub early : AllByRecursion (λ e. e.time ≤ most_accesses) es
   pub within : length es ≤ places
 
 module _ {K : Type 0} (same : K → K → Bool) where

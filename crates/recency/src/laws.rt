@@ -15,9 +15,9 @@ pub fn peek<S: RecencyStore>(
     key: S::Key,
     time: u16,
 ) -> Result<Option<(u32, u16)>, Refusal>
-    ensures places { room store.new ≡ room store.old }
+    ensures places { S.room store.new ≡ S.room store.old }
     ensures refusal { is_err result ≡ true → store.new ≡ store.old }
-    ensures undone { sound store.old → Later time (entries store.old) → (result ≡ touch_answer S.Key.Key.same (room store.old) key (entries store.old)) × (entries store.new ≡ entries store.old) × sound store.new }
+    ensures undone { S.sound store.old → Later time (S.entries store.old) → (result ≡ touch_answer S.Key.Key.same (S.room store.old) key (S.entries store.old)) × (S.entries store.new ≡ S.entries store.old) × S.sound store.new }
     ensures law { TouchUndone S.Key.Key.same }
 {
     touch_and_back(store, key, time)
@@ -29,9 +29,9 @@ fn touch_and_back<S: RecencyStore>(
     key: S::Key,
     time: u16,
 ) -> Result<Option<(u32, u16)>, Refusal>
-    ensures places { room store.new ≡ room store.old }
+    ensures places { S.room store.new ≡ S.room store.old }
     ensures refusal { is_err result ≡ true → store.new ≡ store.old }
-    ensures undone { sound store.old → Later time (entries store.old) → (result ≡ touch_answer S.Key.Key.same (room store.old) key (entries store.old)) × (entries store.new ≡ entries store.old) × sound store.new }
+    ensures undone { S.sound store.old → Later time (S.entries store.old) → (result ≡ touch_answer S.Key.Key.same (S.room store.old) key (S.entries store.old)) × (S.entries store.new ≡ S.entries store.old) × S.sound store.new }
     ensures law { TouchUndone S.Key.Key.same }
 {
     let answer = store.touch(key, time)?;
@@ -55,9 +55,9 @@ pub fn touch_keeping<S: RecencyStore>(
     key: S::Key,
     time: u16,
 ) -> Result<Option<(u32, u16)>, Refusal>
-    ensures rule { Touching S.Key.Key.same key time (room store.old) (room store.new) (entries store.old) (entries store.new) (sound store.old) (sound store.new) result }
+    ensures rule { Touching S.Key.Key.same key time (S.room store.old) (S.room store.new) (S.entries store.old) (S.entries store.new) (S.sound store.old) (S.sound store.new) result }
     ensures refusal { is_err result ≡ true → store.new ≡ store.old }
-    ensures keeps { sound store.old → Later time (entries store.old) → (x : S.Key) → held S.Key.Key.same x (keys (entries store.new)) ≡ (held S.Key.Key.same x (keys (entries store.old)) || (has_room S.Key.Key.same (room store.old) key (entries store.old) && S.Key.Key.same x key)) }
+    ensures keeps { S.sound store.old → Later time (S.entries store.old) → (x : S.Key) → held S.Key.Key.same x (keys (S.entries store.new)) ≡ (held S.Key.Key.same x (keys (S.entries store.old)) || (has_room S.Key.Key.same (S.room store.old) key (S.entries store.old) && S.Key.Key.same x key)) }
 {
     told_touch(store, key, time)
 }
@@ -68,9 +68,9 @@ fn told_touch<S: RecencyStore>(
     key: S::Key,
     time: u16,
 ) -> Result<Option<(u32, u16)>, Refusal>
-    ensures rule { Touching S.Key.Key.same key time (room store.old) (room store.new) (entries store.old) (entries store.new) (sound store.old) (sound store.new) result }
+    ensures rule { Touching S.Key.Key.same key time (S.room store.old) (S.room store.new) (S.entries store.old) (S.entries store.new) (S.sound store.old) (S.sound store.new) result }
     ensures refusal { is_err result ≡ true → store.new ≡ store.old }
-    ensures keeps { sound store.old → Later time (entries store.old) → (x : S.Key) → held S.Key.Key.same x (keys (entries store.new)) ≡ (held S.Key.Key.same x (keys (entries store.old)) || (has_room S.Key.Key.same (room store.old) key (entries store.old) && S.Key.Key.same x key)) }
+    ensures keeps { S.sound store.old → Later time (S.entries store.old) → (x : S.Key) → held S.Key.Key.same x (keys (S.entries store.new)) ≡ (held S.Key.Key.same x (keys (S.entries store.old)) || (has_room S.Key.Key.same (S.room store.old) key (S.entries store.old) && S.Key.Key.same x key)) }
 {
     store.touch(key, time)
 }
@@ -80,10 +80,10 @@ pub fn first_touch<S: RecencyStore>(
     store: &mut S,
     key: S::Key,
 ) -> Result<Option<(u32, u16)>, Refusal>
-    ensures places { room store.new ≡ room store.old }
-    ensures answer { result ≡ touch_answer S.Key.Key.same (room store.old) key [] }
-    ensures list { entries store.new ≡ touch_list S.Key.Key.same (room store.old) key 1 [] }
-    ensures sound { sound store.new }
+    ensures places { S.room store.new ≡ S.room store.old }
+    ensures answer { result ≡ touch_answer S.Key.Key.same (S.room store.old) key [] }
+    ensures list { S.entries store.new ≡ touch_list S.Key.Key.same (S.room store.old) key 1 [] }
+    ensures sound { S.sound store.new }
 {
     touch_emptied(store, key, 1)
 }
@@ -95,10 +95,10 @@ fn touch_emptied<S: RecencyStore>(
     time: u16,
 ) -> Result<Option<(u32, u16)>, Refusal>
     requires { (1 ≤ time) × (time ≤ 4096) }
-    ensures places { room store.new ≡ room store.old }
-    ensures answer { result ≡ touch_answer S.Key.Key.same (room store.old) key [] }
-    ensures list { entries store.new ≡ touch_list S.Key.Key.same (room store.old) key time [] }
-    ensures sound { sound store.new }
+    ensures places { S.room store.new ≡ S.room store.old }
+    ensures answer { result ≡ touch_answer S.Key.Key.same (S.room store.old) key [] }
+    ensures list { S.entries store.new ≡ touch_list S.Key.Key.same (S.room store.old) key time [] }
+    ensures sound { S.sound store.new }
 {
     store.empty();
     store.touch(key, time)
@@ -106,5 +106,5 @@ fn touch_emptied<S: RecencyStore>(
 
 // The rules keep every list in recency order, each key once, within its places.
 pub fn rules_keep_lists<K: Key>()
-    ensures { RulesKeepLists same }
+    ensures { RulesKeepLists K.same }
 {}

@@ -1,6 +1,6 @@
 -- Entries in slots, where a time of 0 marks a free one. Assumes nothing.
 use Rattle.std.proofs.Common.{◌≡◌, ℕ, zero, suc, ◌+◌, ◌<◌, ◌≤◌, min, Bool, true, false, cond, eqb, ltb, leb, List, [], ◌∷◌, ◌++◌, map, length, get_or, take, drop, set, Some, None, sym, refl, ap, ◌∙◌, subst, arith}
-use Rattle.std.specs.List.{AllByRecursion as All}
+use Rattle.std.specs.List.{AllByRecursion}
 use Rattle.std.proofs.lemmas.Bool.{lt-ltb, le-ltb, ltb-true}
 use Rattle.std.proofs.lemmas.List.Elements.{filter-append}
 use Rattle.std.proofs.ByRecursion.{All-weaker, All-more, all_kept_by, kept_by_passes}
@@ -34,7 +34,7 @@ module _ {X : Type 0} where
       ap passes (sym (get_or-take n S p d (omega arith))) ∙ ap (λ i. passes (get_or (take n S) i d)) e ∙ at_passes passes (take n S) d within
 
   -- or none does
-  pub slots_fail : (passes : X → Bool) (n : ℕ) (S : List X) (p : ℕ) → p ≡ index_where passes (take n S) → min (length S) n ≤ p → All (λ x. passes x ≡ false) (take n S)
+  pub slots_fail : (passes : X → Bool) (n : ℕ) (S : List X) (p : ℕ) → p ≡ index_where passes (take n S) → min (length S) n ≤ p → AllByRecursion (λ x. passes x ≡ false) (take n S)
   slots_fail passes n S p e h = none_passes passes (take n S) (omega (arith, length-take n S))
 
   -- a write in the front of a slice
@@ -46,12 +46,12 @@ module _ {X : Type 0} where
 
 module _ {K : Type 0} where
   -- no slot has a time
-  pub all_free : (L : List (Entry K)) → All (λ e. e.time ≡ 0) L → held_in L ≡ []
+  pub all_free : (L : List (Entry K)) → AllByRecursion (λ e. e.time ≡ 0) L → held_in L ≡ []
   all_free [] h = refl
   all_free (e ∷ es) h = rw (le-ltb 0 e.time (omega (arith, h.0))) (all_free es h.1)
 
   -- every slot has one
-  pub none_free : (L : List (Entry K)) → All (λ e. eqb e.time 0 ≡ false) L → held_in L ≡ L
+  pub none_free : (L : List (Entry K)) → AllByRecursion (λ e. eqb e.time 0 ≡ false) L → held_in L ≡ L
   none_free [] h = refl
   none_free (e ∷ es) h = let r = none_free es h.1 in let l = h.0 in grind arith
 
@@ -72,7 +72,7 @@ module _ {K : Type 0} where
   count_held (e ∷ es) = let r = count_held es in grind arith
 
   -- what holds of every held slot holds of the held entries
-  pub all_held : (P : Entry K → Type 0) (L : List (Entry K)) → All (λ e. 1 ≤ e.time → P e) L → All P (held_in L)
+  pub all_held : (P : Entry K → Type 0) (L : List (Entry K)) → AllByRecursion (λ e. 1 ≤ e.time → P e) L → AllByRecursion P (held_in L)
   all_held P L h =
       All-weaker (λ e. (1 ≤ e.time → P e) × (ltb 0 e.time ≡ true)) P (λ e q. q.0 (ltb-true 0 e.time q.1)) (held_in L)
       (all_both (λ e. 1 ≤ e.time → P e) (λ e. ltb 0 e.time ≡ true) (held_in L) (all_kept_by (λ e. ltb 0 e.time) (λ e. 1 ≤ e.time → P e) L h) (kept_by_passes (λ e. ltb 0 e.time) L))
@@ -140,7 +140,7 @@ module _ {K : Type 0} where
         sym (ap (λ es. key_at es j) s ∙ entry_placed x M j (subst Falling s f) (ap (λ m. m + 1) (sym (count_slot n f)) ∙ q))
 
   -- where no slot has the depth j, the list has no j-th entry
-  pub entry_nowhere : (L : List (Entry K)) (j : ℕ) → Falling (by_time (held_in L)) → All (λ e. 1 ≤ e.time → count_above e.time (times_of L) + 1 ≡ j → ⊥) L → key_at (by_time (held_in L)) j ≡ None
+  pub entry_nowhere : (L : List (Entry K)) (j : ℕ) → Falling (by_time (held_in L)) → AllByRecursion (λ e. 1 ≤ e.time → count_above e.time (times_of L) + 1 ≡ j → ⊥) L → key_at (by_time (held_in L)) j ≡ None
   entry_nowhere L j f h =
       let es = by_time (held_in L) in
       let P : Entry K → Type 0 = λ e. count_above e.time (times_of es) + 1 ≡ j → ⊥ in
@@ -157,11 +157,11 @@ module _ {K : Type 0} where
   count_end t L i h = ap (λ es. count_above t (times_of es)) (drop_all i L h)
 
   -- what holds of each slot so far
-  pub all_read_more : (P : Entry K → Type 0) (L : List (Entry K)) (i : ℕ) (x : Entry K) → i < length L → x ≡ get_or L i x → All P (take i L) → P x → All P (take (i + 1) L)
+  pub all_read_more : (P : Entry K → Type 0) (L : List (Entry K)) (i : ℕ) (x : Entry K) → i < length L → x ≡ get_or L i x → AllByRecursion P (take i L) → P x → AllByRecursion P (take (i + 1) L)
   all_read_more P L i x h e a p = All-more P L i x h a (subst P e p)
 
   -- the latest so far is a new one
-  pub latest_new : (L : List (Entry K)) (i b : ℕ) (x y : Entry K) → i < length L → b < length L → x ≡ get_or L i x → y ≡ get_or L b y → y.time < x.time → ((d : Entry K) → All (λ e. e.time ≤ (get_or L b d).time) (take i L)) → (d : Entry K) → All (λ e. e.time ≤ (get_or L i d).time) (take (i + 1) L)
+  pub latest_new : (L : List (Entry K)) (i b : ℕ) (x y : Entry K) → i < length L → b < length L → x ≡ get_or L i x → y ≡ get_or L b y → y.time < x.time → ((d : Entry K) → AllByRecursion (λ e. e.time ≤ (get_or L b d).time) (take i L)) → (d : Entry K) → AllByRecursion (λ e. e.time ≤ (get_or L i d).time) (take (i + 1) L)
   latest_new L i b x y h k ex ey l a d =
       let at_i : x.time ≡ (get_or L i d).time = ap (λ e. e.time) (get_or_read L i x h ex d) in
       let at_b : y.time ≡ (get_or L b d).time = ap (λ e. e.time) (get_or_read L b y k ey d) in
@@ -169,7 +169,7 @@ module _ {K : Type 0} where
       all_read_more (λ e. e.time ≤ (get_or L i d).time) L i x h ex (All-weaker (λ e. e.time ≤ (get_or L b d).time) (λ e. e.time ≤ (get_or L i d).time) (λ e q. omega arith) (take i L) (a d)) (omega arith)
 
   -- or stays
-  pub latest_old : (L : List (Entry K)) (i b : ℕ) (x y : Entry K) → i < length L → b < length L → x ≡ get_or L i x → y ≡ get_or L b y → x.time ≤ y.time → ((d : Entry K) → All (λ e. e.time ≤ (get_or L b d).time) (take i L)) → (d : Entry K) → All (λ e. e.time ≤ (get_or L b d).time) (take (i + 1) L)
+  pub latest_old : (L : List (Entry K)) (i b : ℕ) (x y : Entry K) → i < length L → b < length L → x ≡ get_or L i x → y ≡ get_or L b y → x.time ≤ y.time → ((d : Entry K) → AllByRecursion (λ e. e.time ≤ (get_or L b d).time) (take i L)) → (d : Entry K) → AllByRecursion (λ e. e.time ≤ (get_or L b d).time) (take (i + 1) L)
   latest_old L i b x y h k ex ey l a d =
       let at_b : y.time ≡ (get_or L b d).time = ap (λ e. e.time) (get_or_read L b y k ey d) in
       all_read_more (λ e. e.time ≤ (get_or L b d).time) L i x h ex (a d) (omega arith)
@@ -183,9 +183,9 @@ module _ {K : Type 0} where
 
   -- and none of them has a later one
   pub latest_most : (n : ℕ) (S L : List (Entry K)) (p : ℕ) → L ≡ take n S → 0 < n → 0 < length S →
-      (0 < length L → (p < length L) × ((d : Entry K) → All (λ e. e.time ≤ (get_or L p d).time) L)) → (d : Entry K) → All (λ e. e.time ≤ (get_or S p d).time) (take n S)
+      (0 < length L → (p < length L) × ((d : Entry K) → AllByRecursion (λ e. e.time ≤ (get_or L p d).time) L)) → (d : Entry K) → AllByRecursion (λ e. e.time ≤ (get_or S p d).time) (take n S)
   latest_most n S L p e k h r d =
       let within = latest_within n S L p e k h r in
       let some : 0 < length L = omega (arith, ap length e, length-take n S) in
       let low : p < n = omega arith in
-      subst (λ y. All (λ f. f.time ≤ y.time) (take n S)) (get_or-take n S p d low) (subst (λ M. All (λ f. f.time ≤ (get_or M p d).time) M) e ((r some).1 d))
+      subst (λ y. AllByRecursion (λ f. f.time ≤ y.time) (take n S)) (get_or-take n S p d low) (subst (λ M. AllByRecursion (λ f. f.time ≤ (get_or M p d).time) M) e ((r some).1 d))

@@ -1,6 +1,6 @@
 -- What an unordered store holds, and what its calls make of its slots. A time of 0 marks a free slot.
 use Rattle.std.specs.Prelude.{◌≡◌, ℕ, ◌+◌, ◌≤◌, Bool, true, false, List, [], ◌∷◌, ◌++◌, map, take, drop, Some, None, Ok, Err, filter, Option, Result, ◌≢◌, nat_lt, slice_set}
-use Rattle.std.specs.List.{AllByRecursion as All, slice_get}
+use Rattle.std.specs.List.{AllByRecursion, slice_get}
 use Rattle.refusals.specs.declared.Refusal.{Refusal}
 use Rattle.refusals.specs.declared.Refusal.TheVariants.{NoPlace}
 use Rattle.locality.specs.declared.entry.Entry.{Entry}
@@ -54,7 +54,7 @@ pub record Rewritten {K : Type 0} (Such : Entry K → Type 0) (rewrite : Entry K
 
 -- no held slot has the key
 abbrev pub Lacks : {K : Type 0} → (K → K → Bool) → K → List (Entry K) → Type 0
-Lacks same k slots = All (λ e. 1 ≤ e.time → same k e.key ≡ false) slots
+Lacks same k slots = AllByRecursion (λ e. 1 ≤ e.time → same k e.key ≡ false) slots
 
 -- what a touch of k at time t makes of the slots, whatever calls came before: a slot that holds the key keeps it and takes
 -- the time, and the depth is one more than the number of later times; where none holds it, a free slot, which one is open,
@@ -66,7 +66,7 @@ TouchedSlots same k t slots slots' (Ok (Some f)) =
 TouchedSlots same k t slots slots' (Ok None) =
     Lacks same k (in_places slots) × Rewritten (λ e. e.time ≡ 0) (λ e. at_time k t) slots slots'
 TouchedSlots same k t slots slots' (Err e) =
-    Lacks same k (in_places slots) × All (λ x. 1 ≤ x.time) (in_places slots) × (slots' ≡ slots) × (e ≡ NoPlace)
+    Lacks same k (in_places slots) × AllByRecursion (λ x. 1 ≤ x.time) (in_places slots) × (slots' ≡ slots) × (e ≡ NoPlace)
 
 -- a held entry of some slots that has j − 1 later times in them
 pub record Ranked {K : Type 0} (j : ℕ) (slots : List (Entry K)) (e : Entry K) : Type 0 where
@@ -78,14 +78,14 @@ pub record Ranked {K : Type 0} (j : ℕ) (slots : List (Entry K)) (e : Entry K) 
 -- what entry j answers, by the slots alone, whatever calls came before: such an entry, or none where there is none
 abbrev pub RankedIn : {K : Type 0} → ℕ → List (Entry K) → Option (Entry K) → Type 0
 RankedIn j slots (Some e) = Ranked j slots e
-RankedIn j slots None = All (λ e. 1 ≤ e.time → count_above e.time (times_of slots) + 1 ≢ j) slots
+RankedIn j slots None = AllByRecursion (λ e. 1 ≤ e.time → count_above e.time (times_of slots) + 1 ≢ j) slots
 
 -- a put back of the time t, by the entries held before it: with none nothing is written; else a slot with the latest
 -- time keeps its key and takes the time t, by which 0 frees it
 abbrev pub PutBackIn : {K : Type 0} → List (Entry K) → ℕ → List (Entry K) → List (Entry K) → Type 0
 PutBackIn [] t slots slots' = slots' ≡ slots
 PutBackIn (e ∷ es) t slots slots' =
-    Rewritten (λ x. (1 ≤ x.time) × All (λ f. f.time ≤ x.time) (in_places slots)) (λ x. at_time x.key t) slots slots'
+    Rewritten (λ x. (1 ≤ x.time) × AllByRecursion (λ f. f.time ≤ x.time) (in_places slots)) (λ x. at_time x.key t) slots slots'
 
 -- what a put back of the time t makes of the slots, whatever calls came before
 abbrev pub PutBackSlots : {K : Type 0} → ℕ → List (Entry K) → List (Entry K) → Type 0

@@ -1,6 +1,6 @@
 // Scans of slots. A time of 0 marks a free slot.
 ghost use Rattle.std.specs.Prelude.{◌≡◌, ◌<◌, ◌≤◌, ◌&&◌, [], length, nat_eq, nat_lt, slice_index_or};
-ghost use Rattle.std.specs.List.{AllByRecursion as All};
+ghost use Rattle.std.specs.List.{AllByRecursion};
 ghost use Rattle.locality.specs.declared.entry.Entry.{Entry};
 ghost use Rattle.locality.specs.ByPosition.{key_at};
 ghost use Rattle.locality.specs.Numbers.{count_above};
@@ -68,7 +68,7 @@ pub(crate) fn later_than<K>(slots: &[Entry<K>], time: u16) -> usize
 
 // The index of a slot with the latest time, where there is a slot.
 pub(crate) fn latest<K>(slots: &[Entry<K>]) -> usize
-    ensures { 0 < length slots.now → (result < length slots.now) × ((d : Entry K) → All (λ e. e.time ≤ (slice_index_or slots.now result d).time) slots.now) }
+    ensures { 0 < length slots.now → (result < length slots.now) × ((d : Entry K) → AllByRecursion (λ e. e.time ≤ (slice_index_or slots.now result d).time) slots.now) }
 {
     let mut best = 0;
     for (i, e) in slots.iter().enumerate() {

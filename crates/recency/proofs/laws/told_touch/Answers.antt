@@ -11,5 +11,5 @@ returns g c =
     record {
       rule = rule;
       refusal = c.touch.ensures.refusal;
-      keeps = λ s l x. ap (λ es. held g.row.S-Key-Key.same x (keys es)) (rule.list s l) ∙ touch-held g.met.S.Key.Key.lawful (g.S.RecencyStore.room before) x c.args.key c.args.time (g.S.RecencyStore.entries before);
+      keeps = λ s l x. ap (λ es. held g.S.Key.Key.same x (keys es)) (rule.list s l) ∙ touch-held g.met.S.Key.Key.lawful (g.S.RecencyStore.room before) x c.args.key c.args.time (g.S.RecencyStore.entries before);
     }

@@ -4,7 +4,7 @@ use Rattle.recency.proofs.laws.touch_emptied.Goals as goal
 
 pub returns : goal.returns
 returns g c =
-    let same = g.row.S-Key-Key.same in
+    let same = g.S.Key.Key.same in
     let k = c.args.key in
     let t = c.args.time in
     let none = c.«empty».ensures.list in

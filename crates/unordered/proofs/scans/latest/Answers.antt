@@ -1,6 +1,6 @@
 use Rattle.std.proofs.Common.{◌+◌, ◌<◌, ◌≤◌, length, get_or, take, sym, ap, subst, arith, rules}
 use Rattle.std.proofs.lemmas.List.{take_all}
-use Rattle.std.specs.List.{AllByRecursion as All}
+use Rattle.std.specs.List.{AllByRecursion}
 use Rattle.unordered.proofs.Slots.{latest_new, latest_old}
 use Rattle.unordered.proofs.scans.latest.Goals as goal
 use Rattle.unordered.proofs.scans.latest.Goals.{then-e-slots, else-e-slots}
@@ -17,12 +17,12 @@ loop-i-preserved g c =
     elim c.if-e-slots.branch [
       | then-e-slots w ↦ (
         (λ h. omega (arith, w.best-is)),
-        λ d. subst (λ b. All (λ e. e.time ≤ (get_or L b d).time) (take (i + 1) L)) (sym w.best-is)
+        λ d. subst (λ b. AllByRecursion (λ e. e.time ≤ (get_or L b d).time) (take (i + 1) L)) (sym w.best-is)
             (latest_new L i c.loop-i.best c.index-slots-i.result c.index-slots-best.result c.loop-i-test.true within c.index-slots-i.is c.index-slots-best.is (omega (arith, w.if-e-slots.true, was)) c.loop-i.invariant.1 d),
       )
       | else-e-slots w ↦ (
         (λ h. omega (arith, w.best-is)),
-        λ d. subst (λ b. All (λ e. e.time ≤ (get_or L b d).time) (take (i + 1) L)) (sym w.best-is)
+        λ d. subst (λ b. AllByRecursion (λ e. e.time ≤ (get_or L b d).time) (take (i + 1) L)) (sym w.best-is)
             (latest_old L i c.loop-i.best c.index-slots-i.result c.index-slots-best.result c.loop-i-test.true within c.index-slots-i.is c.index-slots-best.is (omega (arith, w.if-e-slots.false, was)) c.loop-i.invariant.1 d),
       )
     ]
@@ -30,4 +30,4 @@ loop-i-preserved g c =
 pub returns : goal.returns
 returns g c = λ h.
     let L = c.args.slots.now in
-    (c.loop-i.invariant.0 h, λ d. subst (All (λ e. e.time ≤ (get_or L c.loop-i.best d).time)) (take_all c.loop-i.i L c.loop-i-test.false) (c.loop-i.invariant.1 d))
+    (c.loop-i.invariant.0 h, λ d. subst (AllByRecursion (λ e. e.time ≤ (get_or L c.loop-i.best d).time)) (take_all c.loop-i.i L c.loop-i-test.false) (c.loop-i.invariant.1 d))

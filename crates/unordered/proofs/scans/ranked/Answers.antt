@@ -1,5 +1,5 @@
 use Rattle.std.proofs.Common.{◌≡◌, ◌+◌, ◌≤◌, length, sym, refl, subst, arith}
-use Rattle.std.specs.List.{AllByRecursion as All}
+use Rattle.std.specs.List.{AllByRecursion}
 use Rattle.std.proofs.lemmas.List.{take_all}
 use Rattle.std.proofs.lemmas.Option.{slice_get_read}
 use Rattle.locality.specs.Numbers.{count_above}
@@ -33,6 +33,6 @@ loop-e-preserved g c =
 pub returns : goal.returns
 returns g c =
     let L = c.args.slots.now in
-    let none : All (λ e. 1 ≤ e.time → count_above e.time (times_of L) + 1 ≡ c.args.j → ⊥) L
-    = subst (All (λ e. 1 ≤ e.time → count_above e.time (times_of L) + 1 ≡ c.args.j → ⊥)) (take_all c.loop-e.e-index L c.loop-e-test.false) c.loop-e.invariant in
+    let none : AllByRecursion (λ e. 1 ≤ e.time → count_above e.time (times_of L) + 1 ≡ c.args.j → ⊥) L
+    = subst (AllByRecursion (λ e. 1 ≤ e.time → count_above e.time (times_of L) + 1 ≡ c.args.j → ⊥)) (take_all c.loop-e.e-index L c.loop-e-test.false) c.loop-e.invariant in
     record { slots = none; value = λ f. sym (entry_nowhere L c.args.j f none) }
