@@ -8,7 +8,7 @@ use locality::Entry;
 
 // The index of the entry with the same key, or the number of entries.
 pub(crate) fn find<K: Key>(entries: &[Entry<K>], key: &K) -> usize
-    ensures { result ≡ index_where (λ e. same key.now e.key) entries.now }
+    ensures { result ≡ index_where (λ e. K.same key.now e.key) entries.now }
 {
     for (i, e) in entries.iter().enumerate() {
         if key.same_as(&e.key) {

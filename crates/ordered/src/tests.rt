@@ -18,7 +18,7 @@ fn line(address: u64, time: u16) -> Entry<Line> {
 
 // One touch by a store that is then done: the caller's slice holds what the store left.
 fn touched_once<K: Key>(slots: &mut [Entry<K>], key: K)
-    ensures { slots.new ≡ in_front (touch_list same (places_in slots.old) key 1 []) slots.old }
+    ensures { slots.new ≡ in_front (touch_list K.same (places_in slots.old) key 1 []) slots.old }
 {
     let mut store = Ordered::new(slots);
     let _ = store.touch(key, 1);

@@ -17,7 +17,7 @@ pub(crate) fn free_all<K: Key>(slots: &mut [Entry<K>])
     ensures slots { slots.new ≡ freed slots.old }
     ensures places { places_in slots.new ≡ places_in slots.old }
     ensures list { by_time (held_in (in_places slots.new)) ≡ [] }
-    ensures sound { Kept same (places_in slots.new) (by_time (held_in (in_places slots.new))) }
+    ensures sound { Kept K.same (places_in slots.new) (by_time (held_in (in_places slots.new))) }
 {
     for i in 0..slots.len().min(4096) {
         let held = slots[i];
@@ -30,7 +30,7 @@ pub(crate) fn free_all<K: Key>(slots: &mut [Entry<K>])
 
 // The index of the slot that holds the key, or the number of slots.
 pub(crate) fn holding<K: Key>(slots: &[Entry<K>], key: &K) -> usize
-    ensures { result ≡ index_where (λ e. nat_lt 0 e.time && same key.now e.key) slots.now }
+    ensures { result ≡ index_where (λ e. nat_lt 0 e.time && K.same key.now e.key) slots.now }
 {
     for (i, e) in slots.iter().enumerate() {
         if e.time > 0 && key.same_as(&e.key) {

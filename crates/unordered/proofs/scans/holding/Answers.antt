@@ -7,14 +7,14 @@ use Rattle.unordered.proofs.scans.holding.Goals.{else-e-gt0-via-then-e-gt0+else-
 
 pub returns-then-same_as : goal.returns-then-same_as
 returns-then-same_as g c =
-    let p = λ (e : Entry g.row.K.Denot). not (ltb 0 e.time && g.row.K-Key.same c.args.key.now e.key) in
+    let p = λ (e : Entry g.row.K.Denot). not (ltb 0 e.time && g.K.Key.same c.args.key.now e.key) in
     let e = c.index-slots-i.result in
     let y : p e ≡ false = ap not (and_from _ _ (lt-ltb 0 e.time c.if-e-gt0.true) (sym c.if-same_as.ensures)) in
     omega (arith, c.loop-i.invariant, prefix_len-drop_no p c.args.slots.now c.loop-i.i e c.loop-i-test.true (ap p (sym c.index-slots-i.is) ∙ y))
 
 pub loop-i-preserved : goal.loop-i-preserved
 loop-i-preserved g c =
-    let p = λ (e : Entry g.row.K.Denot). not (ltb 0 e.time && g.row.K-Key.same c.args.key.now e.key) in
+    let p = λ (e : Entry g.row.K.Denot). not (ltb 0 e.time && g.K.Key.same c.args.key.now e.key) in
     let e = c.index-slots-i.result in
     let y : p e ≡ true
     = ap not
@@ -26,5 +26,5 @@ loop-i-preserved g c =
 
 pub returns : goal.returns
 returns g c =
-    let p = λ (e : Entry g.row.K.Denot). not (ltb 0 e.time && g.row.K-Key.same c.args.key.now e.key) in
+    let p = λ (e : Entry g.row.K.Denot). not (ltb 0 e.time && g.K.Key.same c.args.key.now e.key) in
     omega (arith, c.loop-i.invariant, prefix_len-drop_all p c.args.slots.now c.loop-i.i c.loop-i-test.false)

@@ -12,10 +12,10 @@ returns-then-at-used g c =
     let s = c.args.self.now in
     let es = ordered_list s in
     let k = c.args.key.now in
-    let at : ltb c.args.at c.used.result ≡ held g.row.K-Key.same k (keys es)
-    = ap₂ ltb c.requires c.used.ensures.count ∙ held-index g.row.K-Key.same k es in
+    let at : ltb c.args.at c.used.result ≡ held g.K.Key.same k (keys es)
+    = ap₂ ltb c.requires c.used.ensures.count ∙ held-index g.K.Key.same k es in
     let in' : ltb c.args.at c.used.result ≡ true = lt-ltb _ _ c.if-at-used.true in
-    let y : held g.row.K-Key.same k (keys es) ≡ true = sym at ∙ in' in
+    let y : held g.K.Key.same k (keys es) ≡ true = sym at ∙ in' in
     record {
       value = in' ∙ sym (ap (λ b. b || ltb (length es) (ordered_places s)) y);
       rule = rw in' tt;
@@ -27,12 +27,12 @@ returns-else-at-used g c =
     let s = c.args.self.now in
     let es = ordered_list s in
     let k = c.args.key.now in
-    let at : ltb c.args.at c.used.result ≡ held g.row.K-Key.same k (keys es)
-    = ap₂ ltb c.requires c.used.ensures.count ∙ held-index g.row.K-Key.same k es in
-    let y : held g.row.K-Key.same k (keys es) ≡ false = sym at ∙ le-ltb _ _ c.if-at-used.false in
+    let at : ltb c.args.at c.used.result ≡ held g.K.Key.same k (keys es)
+    = ap₂ ltb c.requires c.used.ensures.count ∙ held-index g.K.Key.same k es in
+    let y : held g.K.Key.same k (keys es) ≡ false = sym at ∙ le-ltb _ _ c.if-at-used.false in
     let value = c.has_free_place.ensures ∙ sym (ap (λ b. b || ltb (length es) (ordered_places s)) y) in
     record {
       value = value;
-      rule = unless_told _ _ (λ z. refusal_owes g.met.K.Key.lawful k c.args.-time s (sym value ∙ z));
-      always = unless_told _ _ (λ z. refusal_leaves g.met.K.Key.lawful k c.args.-time s (sym value ∙ z));
+      rule = unless_told _ _ (λ z. refusal_owes g.met.K.Key.lawful k c.args._time s (sym value ∙ z));
+      always = unless_told _ _ (λ z. refusal_leaves g.met.K.Key.lawful k c.args._time s (sym value ∙ z));
     }

@@ -28,8 +28,8 @@ returns-then-at-held g c =
     let slots = c.renew.ensures.slots ∙ brought (at_time x.key t) n S i inside in
     let list = ap (λ m. take (min m 4096) (in_front E S)) c.renew.ensures.count ∙ front_same n S E (length_brought (at_time x.key t) es i inside) in
     let fits : length E ≤ length S = omega (arith, length_brought (at_time x.key t) es i inside) in
-    let answer = ap Some c.renew.ensures.told ∙ sym (found_at g.row.K-Key.same k es i x (sym c.requires.0) inside read) in
-    let new = sym (touched_at g.row.K-Key.same k t es i x (sym c.requires.0) inside read) in
+    let answer = ap Some c.renew.ensures.told ∙ sym (found_at g.K.Key.same k es i x (sym c.requires.0) inside read) in
+    let new = sym (touched_at g.K.Key.same k t es i x (sym c.requires.0) inside read) in
     record {
       rule = touch_owes s after E slots list fits c.renew.ensures.callers g.met.K.Key.lawful k t (Some c.renew.result) c.requires.1 answer new;
       always = touch_leaves s after E slots list fits c.renew.ensures.callers g.met.K.Key.lawful k t (Some c.renew.result) c.requires.1 answer new;
@@ -42,9 +42,9 @@ admit-requires g c =
     let n = min s.count 4096 in
     let es = take n S in
     let k = c.args.key in
-    let at : ltb c.args.at c.used-held.result ≡ held g.row.K-Key.same k (keys es)
-    = ap₂ ltb c.requires.0 c.used-held.ensures.count ∙ held-index g.row.K-Key.same k es in
-    let absent : held g.row.K-Key.same k (keys es) ≡ false = sym at ∙ le-ltb _ _ c.if-at-held.false in
+    let at : ltb c.args.at c.used-held.result ≡ held g.K.Key.same k (keys es)
+    = ap₂ ltb c.requires.0 c.used-held.ensures.count ∙ held-index g.K.Key.same k es in
+    let absent : held g.K.Key.same k (keys es) ≡ false = sym at ∙ le-ltb _ _ c.if-at-held.false in
     let free : length es < min (length S) 4096 = ltb-true _ _ (sym (ap (λ b. b || ltb (length es) (min (length S) 4096)) absent) ∙ c.requires.1) in
     omega (arith, c.used-held.ensures.count)
 
@@ -58,17 +58,17 @@ returns g c =
     let t = c.args.time in
     let u = c.used-held.result in
     let after = c.admit.new.self in
-    let at : ltb c.args.at u ≡ held g.row.K-Key.same k (keys es)
-    = ap₂ ltb c.requires.0 c.used-held.ensures.count ∙ held-index g.row.K-Key.same k es in
-    let absent : held g.row.K-Key.same k (keys es) ≡ false = sym at ∙ le-ltb _ _ c.if-at-held.false in
+    let at : ltb c.args.at u ≡ held g.K.Key.same k (keys es)
+    = ap₂ ltb c.requires.0 c.used-held.ensures.count ∙ held-index g.K.Key.same k es in
+    let absent : held g.K.Key.same k (keys es) ≡ false = sym at ∙ le-ltb _ _ c.if-at-held.false in
     let free : length es < min (length S) 4096 = ltb-true _ _ (sym (ap (λ b. b || ltb (length es) (min (length S) 4096)) absent) ∙ c.requires.1) in
     let E = at_time k t ∷ es in
     let slots = c.admit.ensures.slots ∙ grown (at_time k t) n S u c.used-held.ensures.count in
     let m : length E ≡ min (u + 1) 4096 = omega (arith, c.used-held.ensures.count) in
     let list = ap (λ j. take (min j 4096) (in_front E S)) c.admit.ensures.count ∙ front_other (min (u + 1) 4096) S E m in
     let fits : length E ≤ length S = omega arith in
-    let answer = sym (found_absent g.row.K-Key.same k es absent) in
-    let new = sym (touched_absent g.row.K-Key.same k g.met.K.Key.lawful t es absent) in
+    let answer = sym (found_absent g.K.Key.same k es absent) in
+    let new = sym (touched_absent g.K.Key.same k g.met.K.Key.lawful t es absent) in
     record {
       rule = touch_owes s after E slots list fits c.admit.ensures.callers g.met.K.Key.lawful k t None c.requires.1 answer new;
       always = touch_leaves s after E slots list fits c.admit.ensures.callers g.met.K.Key.lawful k t None c.requires.1 answer new;

@@ -12,7 +12,7 @@ offset_bounds-self-at g c = let within : c.holding-at.result < length c.args.sel
 
 pub returns-then-at-places : goal.returns-then-at-places
 returns-then-at-places g c =
-    let same = g.row.K-Key.same in
+    let same = g.K.Key.same in
     let k = c.args.key in
     let t = c.args.time in
     let S = c.args.self.now.slots.now in
@@ -39,7 +39,7 @@ returns-then-at-places g c =
 
 pub returns-then-free-places : goal.returns-then-free-places
 returns-then-free-places g c =
-    let same = g.row.K-Key.same in
+    let same = g.K.Key.same in
     let k = c.args.key in
     let t = c.args.time in
     let S = c.args.self.now.slots.now in
@@ -71,7 +71,7 @@ returns-then-free-places g c =
 
 pub returns : goal.returns
 returns g c =
-    let same = g.row.K-Key.same in
+    let same = g.K.Key.same in
     let k = c.args.key in
     let S = c.args.self.now.slots.now in
     let holding = holds same k in
