@@ -13,6 +13,7 @@ in_blocks size address = record {
   transitive = λ x y z h i. grind arith;
 }
 
+-- objects, the same where both numbers are equal
 pub of_objects : Lawful one_object
 of_objects = record {
   reflexive = λ x. grind arith;
