@@ -1,21 +1,14 @@
 -- The texts that answer a line.
-use Rattle.std.specs.Prelude.{ℕ, ◌+◌, ◌-◌, Bool, cond, ◌&&◌, List, ◌++◌, map, reverse, length, Some, None, codes, decimal, Option, nat_le, nat_lt}
+use Rattle.std.specs.Prelude.{ℕ, ◌+◌, ◌-◌, Bool, cond, List, ◌++◌, map, reverse, length, Some, None, codes, decimal, Option, nat_lt}
 use Rattle.std.specs.List.{range_with_len, flat_map, prefix_len}
 use Rattle.std.specs.Char.{is_ascii_alphabetic}
 use Rattle.locality.specs.Log.{distinct}
-use Rattle.cases.specs.Letters.{one_letter, as_letter, without_return}
+use Rattle.lines.specs.Lines.{quoted, without_return}
+use Rattle.cases.specs.Letters.{one_letter, as_letter}
 use Rattle.cases.specs.Values.{value_of, first_index, end_index}
 use Rattle.cases.specs.declared.curve.Curve.{Curve}
 use Rattle.cases.specs.declared.curve.Curve.TheVariants.{Totals, Windows, Gaps, Misses, Intervals, Distances}
 use Rattle.cases.specs.declared.letters.Letter.{Letter}
-
--- a byte as it is shown: a question mark for what is not printable ASCII
-abbrev pub shown : ℕ → ℕ
-shown b = cond (nat_le 32 b && nat_lt b 127) b 63
-
--- a line in quotation marks
-abbrev pub quoted : List ℕ → List ℕ
-quoted line = codes "\"" ++ (map shown line ++ codes "\"")
 
 -- a value after a blank, or a dash for none
 abbrev pub cell_text : Option ℕ → List ℕ

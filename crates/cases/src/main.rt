@@ -4,20 +4,14 @@
 mod curve;
 mod letters;
 mod report;
-mod values;
 
 use report::answer;
 use std::io::{BufRead, BufReader};
 
-fn run(rt: &HostRuntime) -> anyhow::Result<()> {
+fn main(rt: HostRuntime) -> anyhow::Result<()> {
     for line in BufReader::new(rt.alloc(), rt.stdin())?.split(rt.alloc(), b'\n') {
-        let bytes = line?;
-        let text = answer(rt.alloc(), bytes.as_slice())?;
+        let text = answer(rt.alloc(), &line?)?;
         print!(rt; "{text}")?;
     }
     Ok(())
-}
-
-fn main(rt: HostRuntime) -> anyhow::Result<()> {
-    run(&rt)
 }
