@@ -2,18 +2,19 @@
 ghost use Rattle.std.specs.Prelude.{◌<◌};
 
 use keys::{Key, Line, Object, Page};
-use std::alloc::AllocError;
+use locality::Entry;
+use std::fmt;
 
 // A key kind that can be made of a letter and shown.
 pub(crate) trait Lettered: Key {
     // The key of a letter.
     fn lettered(letter: u8) -> Self;
 
-    // Adds the key to a text.
-    fn show(&self, out: &mut String) -> Result<(), AllocError>;
+    // Writes the key.
+    fn show<W: fmt::Write>(&self, f: &mut fmt::Formatter<W>) -> fmt::Result;
 }
 
-// The number of a letter, from 1; 0 for another byte.
+// The number of a letter, from 1; 0 for another byte, of which the keys in unused slots are made.
 fn number_of(letter: u8) -> u8
     ensures { result < 27 }
 {
@@ -40,12 +41,8 @@ impl Lettered for Line {
         }
     }
 
-    fn show(&self, out: &mut String) -> Result<(), AllocError> {
-        let address = self.address;
-        match write!(out, "{address}") {
-            Ok(()) => Ok(()),
-            Err(_) => Err(AllocError),
-        }
+    fn show<W: fmt::Write>(&self, f: &mut fmt::Formatter<W>) -> fmt::Result {
+        write!(f, "{}", self.address)
     }
 }
 
@@ -56,12 +53,8 @@ impl Lettered for Page {
         }
     }
 
-    fn show(&self, out: &mut String) -> Result<(), AllocError> {
-        let address = self.address;
-        match write!(out, "{address}") {
-            Ok(()) => Ok(()),
-            Err(_) => Err(AllocError),
-        }
+    fn show<W: fmt::Write>(&self, f: &mut fmt::Formatter<W>) -> fmt::Result {
+        write!(f, "{}", self.address)
     }
 }
 
@@ -73,12 +66,25 @@ impl Lettered for Object {
         }
     }
 
-    fn show(&self, out: &mut String) -> Result<(), AllocError> {
-        let pool = self.pool;
-        let object = self.object;
-        match write!(out, "{pool}.{object}") {
-            Ok(()) => Ok(()),
-            Err(_) => Err(AllocError),
+    fn show<W: fmt::Write>(&self, f: &mut fmt::Formatter<W>) -> fmt::Result {
+        write!(f, "{}.{}", self.pool, self.object)
+    }
+}
+
+// A list that prints, newest first, each entry as its key and its time.
+#[derive(Clone, Copy)]
+pub(crate) struct Listed<'a, K>(pub(crate) &'a [Entry<K>]);
+
+impl<K: Lettered> fmt::Display for Listed<'_, K> {
+    fn fmt<W: fmt::Write>(&self, f: &mut fmt::Formatter<W>) -> fmt::Result {
+        write!(f, "[")?;
+        let mut separator = "";
+        for entry in self.0 {
+            write!(f, "{separator}")?;
+            entry.key.show(f)?;
+            write!(f, "@{}", entry.time)?;
+            separator = " ";
         }
+        write!(f, "]")
     }
 }

@@ -2,7 +2,6 @@
 #![tactic(auto)]
 
 mod lettered;
-mod lines;
 mod script;
 mod stores;
 mod subjects;
@@ -10,15 +9,10 @@ mod subjects;
 use std::io::{BufRead, BufReader};
 use stores::script_answer;
 
-fn run(rt: &HostRuntime) -> anyhow::Result<()> {
+fn main(rt: HostRuntime) -> anyhow::Result<()> {
     for line in BufReader::new(rt.alloc(), rt.stdin())?.split(rt.alloc(), b'\n') {
-        let bytes = line?;
-        let text = script_answer(rt.alloc(), bytes.as_slice())?;
+        let text = script_answer(rt.alloc(), &line?)?;
         print!(rt; "{text}")?;
     }
     Ok(())
-}
-
-fn main(rt: HostRuntime) -> anyhow::Result<()> {
-    run(&rt)
 }

@@ -1,63 +1,98 @@
 // Scripts: a number of places, a colon, and steps.
-ghost use Rattle.std.specs.Prelude.{◌≤◌, length, IfSome};
+ghost use Rattle.std.specs.Prelude.{◌≤◌, IfSome};
 
-// The steps of a script, a byte each, on stores with a number of places.
+use std::alloc::{AllocError, Global};
+use std::fmt;
+
+// A step of a script.
 #[derive(Clone, Copy)]
-pub(crate) struct Script<'a> {
-    pub(crate) places: usize,
-    pub(crate) steps: &'a [u8],
+pub(crate) enum Step {
+    // Touches the key of a letter.
+    Touch(u8),
+    // Takes the newest touch that stands back.
+    PutBack,
+    // Removes every entry.
+    Empty,
 }
 
-// The script that a line writes; none where it is no script, longer than 128 bytes, or of more than 64 places.
-pub(crate) fn script_of(line: &[u8]) -> Option<Script<'_>>
-    ensures { IfSome result (λ s. s.places ≤ 64) }
+// Why there is no script.
+#[derive(Clone, Copy, Debug)]
+pub(crate) enum ScriptError {
+    // The line is no script, longer than 128 bytes, or of more than 64 places.
+    NoScript,
+    OutOfMemory(AllocError),
+}
+
+impl From<AllocError> for ScriptError {
+    fn from(error: AllocError) -> ScriptError {
+        ScriptError::OutOfMemory(error)
+    }
+}
+
+impl TryFrom<u8> for Step {
+    type Error = ScriptError;
+
+    fn try_from(byte: u8) -> Result<Step, ScriptError> {
+        match byte {
+            b'a'..=b'z' | b'A'..=b'Z' => Ok(Step::Touch(byte)),
+            b'-' => Ok(Step::PutBack),
+            b'!' => Ok(Step::Empty),
+            _ => Err(ScriptError::NoScript),
+        }
+    }
+}
+
+impl fmt::Display for Step {
+    fn fmt<W: fmt::Write>(&self, f: &mut fmt::Formatter<W>) -> fmt::Result {
+        match self {
+            Step::Touch(letter) => write!(f, "{}", char::from(*letter)),
+            Step::PutBack => write!(f, "-"),
+            Step::Empty => write!(f, "!"),
+        }
+    }
+}
+
+// The steps of a script, on stores with a number of places.
+#[derive(Drop)]
+pub(crate) struct Script {
+    pub(crate) places: usize,
+    pub(crate) steps: Vec<Step>,
+    pub(crate) ghost few: { places ≤ 64 },
+}
+
+impl Script {
+    // The script that a line writes.
+    pub(crate) fn parse(alloc: Global, line: &[u8]) -> Result<Script, ScriptError> {
+        let (places, steps) = parts(line).ok_or(ScriptError::NoScript)?;
+        let steps = steps
+            .iter()
+            .copied()
+            .map(Step::try_from)
+            .try_collect(alloc)?;
+        Ok(Script { places, steps })
+    }
+}
+
+// The number of places, and the bytes that are to be steps.
+fn parts(line: &[u8]) -> Option<(usize, &[u8])>
+    ensures { IfSome result (λ parts. parts.0 ≤ 64) }
 {
+    let colon = line.iter().position(|byte| *byte == b':')?;
     if line.len() > 128 {
         return None;
     }
-    let (digits, rest) = line.split_at(colon_in(line));
-    let [_, steps @ ..] = rest else {
-        return None;
-    };
-    if !are_steps(steps) {
-        return None;
-    }
-    let places = places_of(digits)?;
-    Some(Script { places, steps })
-}
-
-// The index of the first colon, or the length.
-fn colon_in(line: &[u8]) -> usize
-    ensures { result ≤ length line.now }
-{
-    for (i, byte) in line.iter().enumerate() {
-        if *byte == b':' {
-            return i;
-        }
-    }
-    line.len()
+    Some((places_of(&line[..colon])?, &line[colon + 1..]))
 }
 
 // The number of places that digits write; none for other bytes, and past 64.
 fn places_of(digits: &[u8]) -> Option<usize>
-    ensures { IfSome result (λ p. p ≤ 64) }
+    ensures { IfSome result (λ places. places ≤ 64) }
 {
-    let mut places = 0usize;
-    for byte in digits {
-        if !byte.is_ascii_digit() || places > 64 {
-            return None;
-        }
-        places = places * 10 + (*byte as usize - 48);
-    }
-    if places > 64 { None } else { Some(places) }
-}
-
-// Whether every byte is a step: a letter, a put back or an empty.
-fn are_steps(bytes: &[u8]) -> bool {
-    for byte in bytes {
-        if !byte.is_ascii_alphabetic() && *byte != b'-' && *byte != b'!' {
-            return false;
-        }
-    }
-    true
+    digits
+        .iter()
+        .try_fold(0usize, |places, byte| {
+            let digit = byte.checked_sub(b'0').filter(|digit| *digit < 10)?;
+            places.checked_mul(10)?.checked_add(usize::from(digit))
+        })
+        .filter(|places| *places <= 64)
 }

@@ -1,5 +1,5 @@
 // What a script is run on: a recency store, or a list kept by the rules in the plainest way.
-ghost use Rattle.std.specs.Prelude.{◌≤◌, vec_len};
+ghost use Rattle.std.specs.Prelude.{◌≤◌, vec_len, vec_capacity};
 
 use keys::Key;
 use locality::Entry;
@@ -11,155 +11,116 @@ use std::alloc::{AllocError, Global};
 pub(crate) trait Subject {
     type Key: Key;
 
-    fn touch(
-        &mut self,
-        key: Self::Key,
-        time: u16,
-    ) -> Result<Result<Option<(u32, u16)>, Refusal>, AllocError>;
+    fn touch(&mut self, key: Self::Key, time: u16) -> Result<Option<(u32, u16)>, Refusal>;
 
-    fn put_back(&mut self, former: u16) -> Result<(), AllocError>;
+    fn put_back(&mut self, former: u16);
 
     fn empty(&mut self);
 
     // The list, newest first.
-    fn list(&self, heap: Global) -> Result<Vec<Entry<Self::Key>>, AllocError>;
+    fn list(&self, alloc: Global) -> Result<Vec<Entry<Self::Key>>, AllocError>;
 }
 
 // A store, known by the calls of its trait alone.
 #[derive(Drop)]
-pub(crate) struct Stored<S> {
-    pub(crate) store: S,
-}
+pub(crate) struct Stored<S>(pub(crate) S);
 
 impl<S: RecencyStore> Subject for Stored<S> {
     type Key = S::Key;
 
-    fn touch(
-        &mut self,
-        key: S::Key,
-        time: u16,
-    ) -> Result<Result<Option<(u32, u16)>, Refusal>, AllocError> {
-        Ok(self.store.touch(key, time))
+    fn touch(&mut self, key: S::Key, time: u16) -> Result<Option<(u32, u16)>, Refusal> {
+        self.0.touch(key, time)
     }
 
-    fn put_back(&mut self, former: u16) -> Result<(), AllocError> {
-        self.store.put_back(former);
-        Ok(())
+    fn put_back(&mut self, former: u16) {
+        self.0.put_back(former);
     }
 
     fn empty(&mut self) {
-        self.store.empty();
+        self.0.empty();
     }
 
-    fn list(&self, heap: Global) -> Result<Vec<Entry<S::Key>>, AllocError> {
-        let mut entries = Vec::new(heap);
-        for j in 0..self.store.held() {
-            if let Some(entry) = self.store.entry(j.saturating_add(1)) {
-                entries.push(entry)?;
-            }
-        }
-        Ok(entries)
+    fn list(&self, alloc: Global) -> Result<Vec<Entry<S::Key>>, AllocError> {
+        (1..=self.0.held())
+            .filter_map(|j| self.0.entry(j))
+            .collect(alloc)
     }
 }
 
-// The depth of the entry at an index.
-fn depth_at(at: usize) -> u32 {
-    match u32::try_from(at) {
-        Ok(index) => index.saturating_add(1),
-        Err(_) => u32::MAX,
-    }
-}
-
-// A list kept by the rules, with a number of places.
+// A list kept by the rules, with a number of places, which are reserved.
 #[derive(Drop)]
 pub(crate) struct ByRules<K> {
     entries: Vec<Entry<K>>,
     places: usize,
+    ghost few: { places ≤ 64 },
+    ghost within: { vec_len entries ≤ places },
+    ghost reserved: { places ≤ vec_capacity entries },
 }
 
 impl<K: Key> ByRules<K> {
-    pub(crate) fn new(heap: Global, places: usize) -> Self {
-        ByRules {
-            entries: Vec::new(heap),
+    pub(crate) fn new(alloc: Global, places: usize) -> Result<Self, AllocError>
+        requires { places ≤ 64 }
+    {
+        Ok(ByRules {
+            entries: Vec::with_capacity(alloc, places)?,
             places,
-        }
-    }
-
-    // The index of the entry with the same key, or the number of entries.
-    fn find(&self, key: &K) -> usize
-        ensures { result ≤ vec_len self.now.entries }
-    {
-        for (i, entry) in self.entries.as_slice().iter().enumerate() {
-            if key.same_as(&entry.key) {
-                return i;
-            }
-        }
-        self.entries.len()
-    }
-
-    // How many entries at the front have later times.
-    fn later(&self, time: u16) -> usize
-        ensures { result ≤ vec_len self.now.entries }
-    {
-        for (i, entry) in self.entries.as_slice().iter().enumerate() {
-            if entry.time <= time {
-                return i;
-            }
-        }
-        self.entries.len()
+        })
     }
 }
 
 impl<K: Key> Subject for ByRules<K> {
     type Key = K;
 
-    fn touch(
-        &mut self,
-        key: K,
-        time: u16,
-    ) -> Result<Result<Option<(u32, u16)>, Refusal>, AllocError> {
-        let at = self.find(&key);
-        if at < self.entries.len() {
+    fn touch(&mut self, key: K, time: u16) -> Result<Option<(u32, u16)>, Refusal> {
+        if let Some(at) = self
+            .entries
+            .iter()
+            .position(|entry| key.same_as(&entry.key))
+        {
             let entry = self.entries.remove(at);
-            self.entries.insert(
-                0,
-                Entry {
-                    key: entry.key,
-                    time,
-                },
-            )?;
-            return Ok(Ok(Some((depth_at(at), entry.time))));
+            self.entries
+                .insert(
+                    0,
+                    Entry {
+                        key: entry.key,
+                        time,
+                    },
+                )
+                .unwrap();
+            return Ok(Some((at as u32 + 1, entry.time)));
         }
-        if at >= self.places {
-            return Ok(Err(Refusal::NoPlace));
+        if self.entries.len() == self.places {
+            return Err(Refusal::NoPlace);
         }
-        self.entries.insert(0, Entry { key, time })?;
-        Ok(Ok(None))
+        self.entries.insert(0, Entry { key, time }).unwrap();
+        Ok(None)
     }
 
-    fn put_back(&mut self, former: u16) -> Result<(), AllocError> {
-        if self.entries.len() == 0 {
-            return Ok(());
+    fn put_back(&mut self, former: u16) {
+        if self.entries.is_empty() {
+            return;
         }
         let front = self.entries.remove(0);
         if former > 0 {
-            let at = self.later(former);
-            self.entries.insert(
-                at,
-                Entry {
-                    key: front.key,
-                    time: former,
-                },
-            )?;
+            let later = self.entries.iter().position(|entry| entry.time <= former);
+            let at = later.unwrap_or(self.entries.len());
+            self.entries
+                .insert(
+                    at,
+                    Entry {
+                        key: front.key,
+                        time: former,
+                    },
+                )
+                .unwrap();
         }
-        Ok(())
     }
 
     fn empty(&mut self) {
         self.entries.clear();
     }
 
-    fn list(&self, heap: Global) -> Result<Vec<Entry<K>>, AllocError> {
-        Vec::from_slice(heap, self.entries.as_slice())
+    fn list(&self, alloc: Global) -> Result<Vec<Entry<K>>, AllocError> {
+        Vec::from_slice(alloc, &self.entries)
     }
 }
