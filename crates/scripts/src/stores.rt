@@ -1,7 +1,7 @@
 // Runs a script on both stores and on a list kept by the rules, over each key kind, and shows what each did.
 use crate::lettered::{Lettered, Listed};
 use crate::script::{Script, ScriptError, Step};
-use crate::subjects::{ByRules, Stored, Subject};
+use crate::subjects::{ByRules, Subject};
 use keys::{Key, Line, Object, Page};
 use lines::{Quoted, without_return};
 use locality::Entry;
@@ -43,8 +43,8 @@ fn add_kind<K: Lettered>(out: &mut String, kind: &str, script: &Script) -> Resul
         ByRules::<K>::new(alloc, script.places)?,
         &script.steps,
     )?;
-    let ordered = history(alloc, Stored(Ordered::new(&mut slots)), &script.steps)?;
-    let unordered = history(alloc, Stored(Unordered::new(&mut others)), &script.steps)?;
+    let ordered = history(alloc, Ordered::new(&mut slots), &script.steps)?;
+    let unordered = history(alloc, Unordered::new(&mut others), &script.steps)?;
     let verdict = if ordered == by_rules && unordered == by_rules {
         "agree"
     } else {

@@ -22,27 +22,24 @@ pub(crate) trait Subject {
 }
 
 // A store, known by the calls of its trait alone.
-#[derive(Drop)]
-pub(crate) struct Stored<S>(pub(crate) S);
-
-impl<S: RecencyStore> Subject for Stored<S> {
+impl<S: RecencyStore> Subject for S {
     type Key = S::Key;
 
     fn touch(&mut self, key: S::Key, time: u16) -> Result<Option<(u32, u16)>, Refusal> {
-        self.0.touch(key, time)
+        RecencyStore::touch(self, key, time)
     }
 
     fn put_back(&mut self, former: u16) {
-        self.0.put_back(former);
+        RecencyStore::put_back(self, former);
     }
 
     fn empty(&mut self) {
-        self.0.empty();
+        RecencyStore::empty(self);
     }
 
     fn list(&self, alloc: Global) -> Result<Vec<Entry<S::Key>>, AllocError> {
-        (1..=self.0.held())
-            .filter_map(|j| self.0.entry(j))
+        (1..=self.held())
+            .filter_map(|j| self.entry(j))
             .collect(alloc)
     }
 }
