@@ -94,7 +94,7 @@ impl Curve {
     }
 }
 
-// The misses of a cache of a size, a copy of the keys being its memory.
+// The misses of a cache of a size, a copy of as many keys being its memory.
 fn misses_at<K: Key>(alloc: Global, keys: &[K], size: usize) -> Result<u128, AllocError>
     requires { size ≤ length keys.now }
     ensures { IfOk result (λ m. m ≡ misses K.same size (reverse keys.now)) }

@@ -1,6 +1,4 @@
 // Scripts: a number of places, a colon, and steps.
-ghost use Rattle.std.specs.Prelude.{◌≤◌, IfSome};
-
 use std::alloc::{AllocError, Global};
 use std::fmt;
 
@@ -55,9 +53,8 @@ impl fmt::Display for Step {
 // The steps of a script, on stores with a number of places.
 #[derive(Drop)]
 pub(crate) struct Script {
-    pub(crate) places: usize,
+    pub(crate) places: u8,
     pub(crate) steps: Vec<Step>,
-    pub(crate) ghost few: { places ≤ 64 },
 }
 
 impl Script {
@@ -74,9 +71,7 @@ impl Script {
 }
 
 // The number of places, and the bytes that are to be steps.
-fn parts(line: &[u8]) -> Option<(usize, &[u8])>
-    ensures { IfSome result (λ parts. parts.0 ≤ 64) }
-{
+fn parts(line: &[u8]) -> Option<(u8, &[u8])> {
     let colon = line.iter().position(|byte| *byte == b':')?;
     if line.len() > 128 {
         return None;
@@ -85,14 +80,12 @@ fn parts(line: &[u8]) -> Option<(usize, &[u8])>
 }
 
 // The number of places that digits write; none for other bytes, and past 64.
-fn places_of(digits: &[u8]) -> Option<usize>
-    ensures { IfSome result (λ places. places ≤ 64) }
-{
+fn places_of(digits: &[u8]) -> Option<u8> {
     digits
         .iter()
-        .try_fold(0usize, |places, byte| {
+        .try_fold(0u8, |places, byte| {
             let digit = byte.checked_sub(b'0').filter(|digit| *digit < 10)?;
-            places.checked_mul(10)?.checked_add(usize::from(digit))
+            places.checked_mul(10)?.checked_add(digit)
         })
         .filter(|places| *places <= 64)
 }

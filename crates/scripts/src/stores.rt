@@ -59,12 +59,12 @@ fn add_kind<K: Lettered>(out: &mut String, kind: &str, script: &Script) -> Resul
 }
 
 // Slots that were in use before a store is made over them: no store may take what they hold for entries.
-fn dirty_slots<K: Lettered>(alloc: Global, places: usize) -> Result<Vec<Entry<K>>, AllocError> {
+fn dirty_slots<K: Lettered>(alloc: Global, places: u8) -> Result<Vec<Entry<K>>, AllocError> {
     let dirty = Entry {
         key: K::lettered(b'?'),
         time: 9,
     };
-    vec![in alloc; dirty; places]
+    vec![in alloc; dirty; usize::from(places)]
 }
 
 // Every answer of a script's steps, each with the list after it.

@@ -1,5 +1,5 @@
 // What a script is run on: a recency store, or a list kept by the rules in the plainest way.
-ghost use Rattle.std.specs.Prelude.{◌≤◌, vec_len, vec_capacity};
+ghost use Rattle.std.specs.Prelude.{◌<◌, ◌≤◌, vec_len, vec_capacity};
 
 use keys::Key;
 use locality::Entry;
@@ -48,20 +48,25 @@ impl<S: RecencyStore> Subject for S {
 #[derive(Drop)]
 pub(crate) struct ByRules<K> {
     entries: Vec<Entry<K>>,
-    places: usize,
-    ghost few: { places ≤ 64 },
+    places: u8,
     ghost within: { vec_len entries ≤ places },
     ghost reserved: { places ≤ vec_capacity entries },
 }
 
 impl<K: Key> ByRules<K> {
-    pub(crate) fn new(alloc: Global, places: usize) -> Result<Self, AllocError>
-        requires { places ≤ 64 }
-    {
+    pub(crate) fn new(alloc: Global, places: u8) -> Result<Self, AllocError> {
         Ok(ByRules {
-            entries: Vec::with_capacity(alloc, places)?,
+            entries: Vec::with_capacity(alloc, usize::from(places))?,
             places,
         })
+    }
+
+    // Puts an entry at an index, where a place is free.
+    fn insert(&mut self, at: usize, key: K, time: u16)
+        requires index { at ≤ vec_len self.old.entries }
+        requires free { vec_len self.old.entries < self.old.places }
+    {
+        self.entries.insert(at, Entry { key, time }).unwrap();
     }
 }
 
@@ -69,28 +74,23 @@ impl<K: Key> Subject for ByRules<K> {
     type Key = K;
 
     fn touch(&mut self, key: K, time: u16) -> Result<Option<(u32, u16)>, Refusal> {
-        if let Some(at) = self
+        let places = usize::from(self.places);
+        match self
             .entries
             .iter()
             .position(|entry| key.same_as(&entry.key))
         {
-            let entry = self.entries.remove(at);
-            self.entries
-                .insert(
-                    0,
-                    Entry {
-                        key: entry.key,
-                        time,
-                    },
-                )
-                .unwrap();
-            return Ok(Some((at as u32 + 1, entry.time)));
+            Some(at) => {
+                let entry = self.entries.remove(at);
+                self.insert(0, entry.key, time);
+                Ok(Some((at as u32 + 1, entry.time)))
+            }
+            None if self.entries.len() < places => {
+                self.insert(0, key, time);
+                Ok(None)
+            }
+            None => Err(Refusal::NoPlace),
         }
-        if self.entries.len() == self.places {
-            return Err(Refusal::NoPlace);
-        }
-        self.entries.insert(0, Entry { key, time }).unwrap();
-        Ok(None)
     }
 
     fn put_back(&mut self, former: u16) {
@@ -101,15 +101,7 @@ impl<K: Key> Subject for ByRules<K> {
         if former > 0 {
             let later = self.entries.iter().position(|entry| entry.time <= former);
             let at = later.unwrap_or(self.entries.len());
-            self.entries
-                .insert(
-                    at,
-                    Entry {
-                        key: front.key,
-                        time: former,
-                    },
-                )
-                .unwrap();
+            self.insert(at, front.key, former);
         }
     }
 
