@@ -1,5 +1,5 @@
 // The curves that are printed of a burst, each with its values, counted afresh.
-ghost use Rattle.std.specs.Prelude.{◌≡◌, ◌≤◌, reverse, length, Some, IfOk};
+ghost use Rattle.std.specs.Prelude.{◌≡◌, ◌+◌, ◌≤◌, reverse, length, Some, IfOk};
 ghost use Rattle.locality.specs.Cache.{misses};
 ghost use Rattle.cases.specs.Texts.{label_of};
 ghost use Rattle.cases.specs.Values.{found_in, value_of, first_index, end_index};
@@ -61,15 +61,14 @@ impl Curve {
         }
     }
 
-    // One past the index where the curve ends, from the numbers of accesses and of keys.
-    pub(crate) fn end_index(self, accesses: usize, keys: usize) -> usize
-        requires { (accesses ≤ 128) × (keys ≤ 128) }
-        ensures { result ≡ end_index self accesses keys }
+    // The index where the curve ends, from the numbers of accesses and of keys.
+    pub(crate) fn last_index(self, accesses: usize, keys: usize) -> usize
+        ensures { result + 1 ≡ end_index self accesses keys }
     {
         match self {
-            Curve::Misses => keys + 1,
-            Curve::Totals | Curve::Windows | Curve::Gaps => accesses + 1,
-            Curve::Intervals | Curve::Distances => accesses + 1,
+            Curve::Misses => keys,
+            Curve::Totals | Curve::Windows | Curve::Gaps => accesses,
+            Curve::Intervals | Curve::Distances => accesses,
         }
     }
 

@@ -29,7 +29,6 @@ pub(crate) fn answer(alloc: Global, bytes: &[u8]) -> Result<String, AllocError>
 // What a burst measures.
 #[tactic(auto, unfolding(crate::specs::Texts::burst_text))]
 fn add_burst(out: &mut String, line: &[u8]) -> Result<(), AllocError>
-    requires { length line.now ≤ 128 }
     ensures { OnOk result (string_bytes out.new ≡ string_bytes out.old ++ burst_text line.now) }
 {
     let keys = keys_of(*out.allocator(), line)?;
@@ -72,7 +71,6 @@ fn add_head(out: &mut String, line: &[u8], keys: usize) -> Result<(), AllocError
 
 // A row for each curve.
 fn add_rows<K: Key>(out: &mut String, keys: &[K]) -> Result<(), AllocError>
-    requires { length keys.now ≤ 128 }
     ensures { OnOk result (string_bytes out.new ≡ string_bytes out.old ++ rows_text K.same (reverse keys.now)) }
 {
     for curve in Curve::ALL {
@@ -84,12 +82,11 @@ fn add_rows<K: Key>(out: &mut String, keys: &[K]) -> Result<(), AllocError>
 // The values of one curve.
 #[tactic(auto, unfolding(crate::specs::Texts::values_text, crate::specs::Texts::row_text))]
 fn add_row<K: Key>(out: &mut String, keys: &[K], curve: Curve) -> Result<(), AllocError>
-    requires { length keys.now ≤ 128 }
     ensures { OnOk result (string_bytes out.new ≡ string_bytes out.old ++ row_text K.same curve (reverse keys.now)) }
 {
     write!(out, "{curve}")?;
-    let end = curve.end_index(keys.len(), distinct_keys(keys));
-    for i in curve.first_index()..end {
+    let last = curve.last_index(keys.len(), distinct_keys(keys));
+    for i in curve.first_index()..=last {
         let value = curve.value(*out.allocator(), keys, i)?;
         add_value(out, value)?;
     }

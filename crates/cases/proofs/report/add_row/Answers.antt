@@ -4,5 +4,5 @@ use Rattle.cases.proofs.report.add_row.Goals as goal
 
 pub loop-i-preserved : goal.loop-i-preserved
 loop-i-preserved g c =
-    let left : c.end_index-end.result - c.loop-i.i ≡ suc (c.end_index-end.result - (c.loop-i.i + 1)) = omega arith in
+    let left : c.last_index-last.result + 1 - c.loop-i.i ≡ suc (c.last_index-last.result + 1 - (c.loop-i.i + 1)) = omega arith in
     grind (arith, common_steps, left)
