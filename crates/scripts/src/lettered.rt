@@ -1,4 +1,5 @@
-// Keys of letters, for each key kind. A capital is the same key as its small letter, by another byte of its block.
+// Keys of letters, for each key kind, and lists of them as they are shown. A capital is the same key as its small letter,
+// by another byte of its block.
 ghost use Rattle.std.specs.Prelude.{◌<◌};
 
 use keys::{Key, Line, Object, Page};

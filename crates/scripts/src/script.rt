@@ -72,10 +72,10 @@ impl Script {
 
 // The number of places, and the bytes that are to be steps.
 fn parts(line: &[u8]) -> Option<(u8, &[u8])> {
-    let colon = line.iter().position(|byte| *byte == b':')?;
     if line.len() > 128 {
         return None;
     }
+    let colon = line.iter().position(|byte| *byte == b':')?;
     Some((places_of(&line[..colon])?, &line[colon + 1..]))
 }
 

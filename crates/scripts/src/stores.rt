@@ -91,7 +91,7 @@ where
 #[derive(Drop)]
 struct Run<T> {
     subject: T,
-    // What the touches that stand answered as their keys' former times, 0 for a first touch.
+    // The former times of the touches that stand, as a put back takes them: 0 for a first touch.
     formers: Vec<u16>,
     // What the steps did so far.
     out: String,

@@ -75,11 +75,11 @@ impl<K: Key> Subject for ByRules<K> {
 
     fn touch(&mut self, key: K, time: u16) -> Result<Option<(u32, u16)>, Refusal> {
         let places = usize::from(self.places);
-        match self
+        let held = self
             .entries
             .iter()
-            .position(|entry| key.same_as(&entry.key))
-        {
+            .position(|entry| key.same_as(&entry.key));
+        match held {
             Some(at) => {
                 let entry = self.entries.remove(at);
                 self.insert(0, entry.key, time);
