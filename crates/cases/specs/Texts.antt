@@ -1,5 +1,5 @@
 -- The texts that answer a line.
-use Rattle.std.specs.Prelude.{ℕ, ◌+◌, ◌-◌, Bool, cond, List, ◌++◌, map, reverse, length, Some, None, codes, decimal, Option, nat_lt}
+use Rattle.std.specs.Prelude.{ℕ, ◌+◌, ◌-◌, Bool, if◌then◌else◌, List, ◌++◌, map, reverse, length, Some, None, codes, decimal, Option, nat_lt}
 use Rattle.std.specs.List.{range_with_len, flat_map, prefix_len}
 use Rattle.std.specs.Char.{is_ascii_alphabetic}
 use Rattle.locality.specs.Log.{distinct}
@@ -62,8 +62,7 @@ burst_text line = head_text line (distinct one_letter (log_of line)) ++ rows_tex
 -- the answer to a line: too long, not all letters, or the burst measured
 abbrev pub answer_to : List ℕ → List ℕ
 answer_to line =
-    cond (nat_lt 128 (length line)) (long_text (length line))
-    (cond (nat_lt (prefix_len is_ascii_alphabetic line) (length line)) (stray_text line (prefix_len is_ascii_alphabetic line + 1)) (burst_text line))
+    if nat_lt 128 (length line) then long_text (length line) else if nat_lt (prefix_len is_ascii_alphabetic line) (length line) then stray_text line (prefix_len is_ascii_alphabetic line + 1) else burst_text line
 
 -- a carriage return at the end of a line is dropped first
 abbrev pub answer_text : List ℕ → List ℕ

@@ -93,7 +93,8 @@ impl Curve {
     }
 }
 
-// The misses of a cache of a size, a copy of as many keys being its memory.
+// The misses of a cache of a size, a copy of as many keys being its memory. (`as` here and below: there is no `From` of a
+// `usize` for a `u128`.)
 fn misses_at<K: Key>(alloc: Global, keys: &[K], size: usize) -> Result<u128, AllocError>
     requires { size ≤ length keys.now }
     ensures { IfOk result (λ m. m ≡ misses K.same size (reverse keys.now)) }

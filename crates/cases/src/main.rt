@@ -8,6 +8,8 @@ mod report;
 use report::answer;
 use std::io::{BufRead, BufReader};
 
+// (The other program has this loop too: what is read and written has no contract, so a shared function would promise
+// nothing, and no edit of it could be refused.)
 fn main(rt: HostRuntime) -> anyhow::Result<()> {
     for line in BufReader::new(rt.alloc(), rt.stdin())?.split(rt.alloc(), b'\n') {
         let text = answer(rt.alloc(), &line?)?;

@@ -85,6 +85,7 @@ fn add_row<K: Key>(out: &mut String, keys: &[K], curve: Curve) -> Result<(), All
     ensures { OnOk result (string_bytes out.new ≡ string_bytes out.old ++ row_text K.same curve (reverse keys.now)) }
 {
     write!(out, "{curve}")?;
+    // The index is itself a length, an entry, a size or a position.
     let last = curve.last_index(keys.len(), distinct_keys(keys));
     for i in curve.first_index()..=last {
         let value = curve.value(*out.allocator(), keys, i)?;

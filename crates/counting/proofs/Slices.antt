@@ -1,9 +1,9 @@
 -- The definitions on a slice of keys, the oldest access first. Assumes nothing.
-use Rattle.std.proofs.Common.{◌≡◌, ℕ, zero, suc, ◌+◌, ◌-◌, ◌<◌, ◌≤◌, Bool, true, false, cond, not, eqb, ltb, List, [], ◌∷◌, ◌++◌, map, reverse, length, get_or, take, drop, Some, None, filter, sym, refl, ap, ◌∙◌, ap₂, ⊎_elim, add-one, arith}
+use Rattle.std.proofs.Common.{◌≡◌, ℕ, zero, suc, ◌+◌, ◌-◌, ◌<◌, ◌≤◌, Bool, true, false, cond, eqb, leb, List, [], ◌∷◌, ◌++◌, map, reverse, length, get_or, take, drop, Some, None, Option, filter, sym, refl, ap, ◌∙◌, ap₂, ⊎_elim, add-one, arith}
 use mathlib.Core.Bool.{false≢true}
-use Rattle.std.proofs.lemmas.List.{reverse-reverse, length-reverse, length-take, length-take-le, map-id, take_more}
-use Rattle.std.proofs.lemmas.Bool.{cases_Bool, ltb-true}
-use Rattle.std.specs.List.{prefix_len}
+use Rattle.std.proofs.lemmas.List.{reverse-reverse, length-reverse, length-take, length-take-le, map-id, take_more, get_or-take, get_or_default}
+use Rattle.std.proofs.lemmas.Bool.{cases_Bool, cases_lt}
+use Rattle.std.specs.List.{position_or_len, range_with_len}
 use Rattle.keys.specs.Sameness.{Lawful}
 use Rattle.locality.proofs.Sums.{sum_over-append, sum_over-map, sum_over_each, sum_over-add}
 use Rattle.locality.proofs.Finds.{first_at, without_at}
@@ -15,6 +15,9 @@ use Rattle.locality.specs.Log.{listed, held, distinct, total, interval_at, dista
 use Rattle.locality.specs.Recency.{without}
 use Rattle.locality.specs.Cache.{accessed, cache, misses}
 use Rattle.locality.specs.ByPosition.{positions, greatest, window, windows_by_start, alike, same_at, former_of, interval_of, distance_of, first_positions, last_positions, positions_with, cache_from, misses_from}
+use Rattle.std.specs.Option.{option_map}
+use Rattle.std.specs.Prelude.{MatchOption}
+use Rattle.counting.specs.Finds.{IsLast}
 use Rattle.counting.specs.Shares.{share_of}
 
 -- one element more of a slice, as it is read
@@ -28,14 +31,28 @@ sum_more f n =
     ap (λ m. sum_over f (positions m)) e ∙ ap (sum_over f) (positions_more n) ∙ sum_over-append f (positions n) (suc n ∷ [])
     ∙ ap (λ m. sum_over f (positions n) + (f m + 0)) (sym e) ∙ omega arith
 
--- the greatest position that passes: here, or further back
-pub greatest_here : (f : ℕ → Bool) (p : ℕ) → 0 < p → f p ≡ true → greatest f p ≡ p
-greatest_here f zero h y = absurd (omega arith)
-greatest_here f (suc p) h y = rw y
+-- a sum over positions, each one further on
+shifted : (f g : ℕ → ℕ) → ((s : ℕ) → 1 ≤ s → f (s + 1) ≡ g s) → (a n : ℕ) → 1 ≤ a → sum_over f (range_with_len (a + 1) n) ≡ sum_over g (range_with_len a n)
+shifted f g h a zero l = refl
+shifted f g h a (suc n) l = ap₂ ◌+◌ (h a l) (shifted f g h (a + 1) n (omega arith))
 
-pub greatest-back : (f : ℕ → Bool) (p : ℕ) → 0 < p → f p ≡ false → greatest f (p - 1) ≡ greatest f p
-greatest-back f zero h y = absurd (omega arith)
-greatest-back f (suc p) h y = let e : suc p - 1 ≡ p = omega arith in rw (y, e)
+-- no window of no access has a key
+pub total_zero : {K : Type 0} (same : K → K → Bool) (log : List K) → total same 0 log ≡ 0
+total_zero same [] = refl
+total_zero same (k ∷ past) = let y : leb 0 (suc (length past)) ≡ true = grind arith in let r = total_zero same past in rw y (omega arith)
+
+-- the greatest position that passes, by what is known of each
+pub greatest_none : (f : ℕ → Bool) (n : ℕ) → ((j : ℕ) → 1 ≤ j → j ≤ n → f j ≡ false) → greatest f n ≡ 0
+greatest_none f zero h = refl
+greatest_none f (suc n) h = rw (h (suc n) (omega arith) (omega arith)) (greatest_none f n (λ j l m. h j l (omega arith)))
+
+pub greatest_at : (f : ℕ → Bool) (n g : ℕ) → 1 ≤ g → g ≤ n → f g ≡ true → ((j : ℕ) → g < j → j ≤ n → f j ≡ false) → greatest f n ≡ g
+greatest_at f zero g l m y h = absurd (omega arith)
+greatest_at f (suc n) g l m y h =
+    ⊎_elim
+    (λ (b : g < suc n). rw (h (suc n) b (omega arith)) (greatest_at f n g l (omega arith) y (λ j p q. h j p (omega arith))))
+    (λ (b : suc n ≤ g). let e : suc n ≡ g = omega arith in let here : f (suc n) ≡ true = ap f e ∙ y in rw here e)
+    (cases_lt g (suc n))
 
 -- the positions that a filter keeps, counted one by one
 map-kept : (f : ℕ → ℕ) (p : ℕ → Bool) (i : ℕ) (ts : List ℕ) → times i (map f (filter p ts)) ≡ sum_over (λ t. cond (p t) (is_number i (f t)) 0) ts
@@ -49,24 +66,28 @@ module _ {K : Type 0} (same : K → K → Bool) where
   pub same_read : (xs : List K) (t p : ℕ) (x y : K) → 1 ≤ t → t ≤ length xs → x ≡ get_or xs (t - 1) x → 1 ≤ p → p ≤ length xs → y ≡ get_or xs (p - 1) y → same_at same xs t p ≡ same x y
   same_read xs t p x y l h e m k d = ap₂ (alike same) (element_read xs t x l h e) (element_read xs p y m k d)
 
-  -- the first same key stands within the list exactly when one is held
-  pub held_leading : (k : K) (xs : List K) → ltb (prefix_len (λ x. not (same k x)) xs) (length xs) ≡ held same k xs
-  held_leading k [] = refl
-  held_leading k (x ∷ xs) = let r = held_leading k xs in grind arith
+  at_index : (xs : List K) (t most j : ℕ) (x : K) → 1 ≤ t → t ≤ length xs → x ≡ get_or xs (t - 1) x → most ≤ length xs → 1 ≤ j → j ≤ most → same_at same xs t j ≡ same x (get_or (take most xs) (j - 1) x)
+  at_index xs t most j x l h e m p q =
+      let y = get_or xs (j - 1) x in
+      same_read xs t j x y l h e p (omega arith) (get_or_default xs (j - 1) x y (omega arith)) ∙ ap (same x) (sym (get_or-take most xs (j - 1) x (omega arith)))
 
-  -- what a search of the first n elements finds
-  pub found_front : (k : K) (xs : List K) (n i : ℕ) → n ≤ length xs → i ≡ prefix_len (λ x. not (same k x)) (take (n - 0) xs) →
-      (prefix_len (λ x. not (same k x)) (take n xs) ≡ i) × (held same k (take n xs) ≡ ltb i n)
-  found_front k xs n i h e =
-      let z : n - 0 ≡ n = omega arith in
-      let f : prefix_len (λ x. not (same k x)) (take n xs) ≡ i = sym (e ∙ ap (λ j. prefix_len (λ x. not (same k x)) (take j xs)) z) in
-      (f, sym (held_leading k (take n xs)) ∙ ap₂ ltb f (length-take-le n xs h))
+  -- a search from the end of the first `most` keys finds the greatest position with the key of position t
+  pub latest : (xs : List K) (t most : ℕ) (x : K) (found : Option ℕ) → 1 ≤ t → t ≤ length xs → x ≡ get_or xs (t - 1) x → most ≤ length xs → IsLast (same x) (take most xs) found →
+      MatchOption (option_map (λ i. i + 1) found) (greatest (same_at same xs t) most ≡ 0) (λ p. (greatest (same_at same xs t) most ≡ p) × (1 ≤ p) × (p ≤ most))
+  latest xs t most x None l h e m none =
+      greatest_none (same_at same xs t) most (λ j p q. at_index xs t most j x l h e m p q ∙ none (j - 1) x (omega (arith, length-take-le most xs m)))
+  latest xs t most x (Some i) l h e m found =
+      let fails : (j : ℕ) → i + 1 < j → j ≤ most → same_at same xs t j ≡ false
+      = λ j p q. at_index xs t most j x l h e m (omega arith) q ∙ found.2 (j - 1) x (omega arith) (omega (arith, length-take-le most xs m)) in
+      let low : i + 1 ≤ most = omega (arith, found.0, length-take-le most xs m) in
+      let at : i + 1 - 1 ≡ i = omega arith in
+      let passes : same_at same xs t (i + 1) ≡ true = at_index xs t most (i + 1) x l h e m (omega arith) low ∙ ap (λ n. same x (get_or (take most xs) n x)) at ∙ found.1 x in
+      (greatest_at (same_at same xs t) most (i + 1) (omega arith) low passes fails, omega arith, low)
 
   -- what a cache holds after a hit on the key x at index i, and after a miss
-  pub after_hit : (c : ℕ) (k x : K) (ks : List K) (i : ℕ) → prefix_len (λ y. not (same k y)) ks ≡ i → held same k ks ≡ true → x ≡ get_or ks i x →
+  pub after_hit : (c : ℕ) (k x : K) (ks : List K) (i : ℕ) → position_or_len (same k) ks ≡ i → i < length ks → held same k ks ≡ true → x ≡ get_or ks i x →
       x ∷ (take i ks ++ drop (i + 1) ks) ≡ accessed same c k ks
-  after_hit c k x ks i e y d =
-      let h : i < length ks = ltb-true i (length ks) (ap (λ j. ltb j (length ks)) (sym e) ∙ held_leading k ks ∙ y) in
+  after_hit c k x ks i e h y d =
       ap₂ ◌∷◌ (first_at (same k) k x ks i e h d) (ap (λ j. take i ks ++ drop j ks) (add-one i) ∙ without_at (same k) ks i e h) ∙ rw y
 
   pub after_miss : (c : ℕ) (k : K) (ks : List K) → held same k ks ≡ false → take c (k ∷ ks) ≡ accessed same c k ks
@@ -115,6 +136,23 @@ module _ {K : Type 0} {same : K → K → Bool} (laws : Lawful same) where
   total-slice w xs =
       (textbook laws (reverse xs)).totals w ∙ ap (λ ys. sum_over (distinct same) (windows_by_start w ys)) (reverse-reverse xs)
       ∙ sum_over-map (distinct same) (λ s. window w s xs) (positions (suc (length xs) - w))
+
+  window_shift : (w s : ℕ) (x : K) (xs : List K) → 1 ≤ s → distinct same (window w (s + 1) (x ∷ xs)) ≡ distinct same (window w s xs)
+  window_shift w zero x xs p = absurd (omega arith)
+  window_shift w (suc s) x xs p = let a : suc s + 1 - 1 ≡ suc s = omega arith in let b : suc s - 1 ≡ s = omega arith in rw (a, b)
+
+  -- the windows of a slice, from its front: none is left, or the one at the front and those without the oldest access
+  pub total_short : (w : ℕ) (xs : List K) → length xs < w → total same w (reverse xs) ≡ 0
+  total_short w xs h = let z : suc (length xs) - w ≡ 0 = omega arith in total-slice w xs ∙ ap (λ n. sum_over (λ s. distinct same (window w s xs)) (positions n)) z
+
+  pub total_next : (w : ℕ) (xs : List K) → 1 ≤ w → w ≤ length xs → distinct same (take w xs) + total same w (reverse (drop 1 xs)) ≡ total same w (reverse xs)
+  total_next w [] l h = absurd (omega arith)
+  total_next w (x ∷ xs) l h =
+      let f : ℕ → ℕ = λ s. distinct same (window w s (x ∷ xs)) in
+      let g : ℕ → ℕ = λ s. distinct same (window w s xs) in
+      let n : suc (suc (length xs)) - w ≡ suc (suc (length xs) - w) = omega arith in
+      ap (λ t. distinct same (take w (x ∷ xs)) + t) (total-slice w xs ∙ sym (shifted f g (λ s p. window_shift w s x xs p) 1 (suc (length xs) - w) (omega arith)))
+      ∙ sym (total-slice w (x ∷ xs) ∙ ap (λ m. sum_over f (positions m)) n)
 
   pub misses-slice : (c : ℕ) (xs : List K) → misses same c (reverse xs) ≡ misses_from same c [] xs
   misses-slice c xs = (textbook laws (reverse xs)).misses c ∙ ap (misses_from same c []) (reverse-reverse xs)

@@ -1,5 +1,5 @@
 -- The gaps that a position has part in.
-use Rattle.std.specs.Prelude.{ℕ, suc, ◌+◌, ◌-◌, Bool, cond, List, length, ◌==◌}
+use Rattle.std.specs.Prelude.{ℕ, suc, ◌+◌, ◌-◌, Bool, if◌then◌else◌, List, length, ◌==◌}
 use Rattle.locality.specs.Numbers.{is_number}
 use Rattle.locality.specs.ByPosition.{same_at, greatest, former_of}
 
@@ -8,4 +8,4 @@ use Rattle.locality.specs.ByPosition.{same_at, greatest, former_of}
 abbrev pub share_of : {K : Type 0} → (K → K → Bool) → List K → ℕ → ℕ → ℕ
 share_of same xs i t =
     is_number i (t - former_of same xs t)
-    + cond (greatest (same_at same xs t) (length xs) == t) (is_number i (suc (length xs) - t)) 0
+    + (if greatest (same_at same xs t) (length xs) == t then is_number i (suc (length xs) - t) else 0)

@@ -5,6 +5,7 @@
 mod finds;
 pub mod gaps;
 pub mod looks;
+mod position;
 pub mod simulation;
 #[cfg(test)]
 mod tests;

@@ -1,7 +1,9 @@
 // The misses of an LRU cache, by simulating it.
 ghost use Rattle.std.specs.Prelude.{◌≡◌, ◌+◌, ◌<◌, ◌≤◌, ◌∷◌, ◌++◌, reverse, length, take, drop, slice_index_or};
+ghost use Rattle.std.specs.List.{position};
 ghost use Rattle.locality.specs.Log.{held};
 ghost use Rattle.locality.specs.Cache.{accessed, misses};
+ghost use Rattle.locality.specs.Slices.{in_front};
 ghost use Rattle.counting.specs.Memory.{memory_after};
 
 use crate::finds::find;
@@ -13,46 +15,66 @@ pub fn lru_misses<K: Key>(keys: &[K], places: &mut [K]) -> usize
     ensures misses { result ≡ misses K.same (length places.old) (reverse keys.now) }
     ensures places { places.new ≡ memory_after K.same keys.now places.old }
 {
+    let mut cache = Cache { places, count: 0 };
     let mut missed = 0;
-    let mut count = 0;
     for key in keys {
-        let (hit, after) = access(places, count, key);
-        count = after;
-        if !hit {
+        if !cache.access(key) {
             missed += 1;
         }
     }
     missed
 }
 
-// One access of a cache that holds the first `count` keys of its places: whether it hits, and how many it then holds.
-fn access<K: Key>(places: &mut [K], count: usize, key: &K) -> (bool, usize)
-    requires { count ≤ length places.old }
-    ensures hit { result.0 ≡ held K.same key.now (take count places.old) }
-    ensures count { result.1 ≡ length (accessed K.same (length places.old) key.now (take count places.old)) }
-    ensures places { places.new ≡ accessed K.same (length places.old) key.now (take count places.old) ++ drop result.1 places.old }
-{
-    let at = find(&places[0..count], key);
-    if at < count {
-        bring_forward(places, at);
-        return (true, count);
-    }
-    (false, admit(places, count, key))
+// A cache: its keys stand in the first `count` places of a lent slice, the newest first. (A slice and a count and no `Vec`:
+// the memory is the caller's, so that counting misses cannot fail.)
+#[derive(Drop)]
+struct Cache<'a, K> {
+    places: &'a mut [K],
+    count: usize,
+    ghost within: { count ≤ length places.now },
 }
 
-// A miss: the key goes to the front, and the last key falls out where every place is taken. Answers how many are held.
-fn admit<K: Key>(places: &mut [K], count: usize, key: &K) -> usize
-    requires { count ≤ length places.old }
-    ensures count { result ≡ length (take (length places.old) (key.now ∷ take count places.old)) }
-    ensures places { places.new ≡ take (length places.old) (key.now ∷ take count places.old) ++ drop result places.old }
-{
-    if places.len() == 0 {
-        return 0;
+impl<'a, K: Key> Cache<'a, K> {
+    // One access: whether it hits.
+    fn access(&mut self, key: &K) -> bool
+        ensures hit { result ≡ held K.Key.same key.now (take self.old.count self.old.places.now) }
+        ensures keys { take self.new.count self.new.places.now ≡ accessed K.Key.same (length self.old.places.now) key.now (take self.old.count self.old.places.now) }
+        ensures places { self.new.places.now ≡ in_front (take self.new.count self.new.places.now) self.old.places.now }
+        ensures lent { self.new.places.ghost_name ≡ self.old.places.ghost_name }
+    {
+        match self.find(key) {
+            Some(at) => {
+                bring_forward(self.places, at);
+                true
+            }
+            None => {
+                self.admit(key);
+                false
+            }
+        }
     }
-    let last = count.min(places.len() - 1);
-    bring_forward(places, last);
-    places[0] = *key;
-    last + 1
+
+    // The place of the same key, counted from 0.
+    fn find(&self, key: &K) -> Option<usize>
+        ensures { result ≡ position (λ x. K.Key.same key.now x) (take self.now.count self.now.places.now) }
+    {
+        find(&self.places[..self.count], key)
+    }
+
+    // A miss: the key goes to the front, and the last key falls out where every place is taken.
+    fn admit(&mut self, key: &K)
+        ensures keys { take self.new.count self.new.places.now ≡ take (length self.old.places.now) (key.now ∷ take self.old.count self.old.places.now) }
+        ensures places { self.new.places.now ≡ in_front (take self.new.count self.new.places.now) self.old.places.now }
+        ensures lent { self.new.places.ghost_name ≡ self.old.places.ghost_name }
+    {
+        let Some(end) = self.places.len().checked_sub(1) else {
+            return;
+        };
+        let last = self.count.min(end);
+        bring_forward(self.places, last);
+        self.places[0] = *key;
+        self.count = last + 1;
+    }
 }
 
 // Moves one key to the front, behind which the ones that stood before it follow.
@@ -60,5 +82,5 @@ fn bring_forward<K: Key>(places: &mut [K], at: usize)
     requires { at < length places.old }
     ensures { (d : K) → places.new ≡ slice_index_or places.old at d ∷ (take at places.old ++ drop (at + 1) places.old) }
 {
-    places[0..at + 1].rotate_right(1);
+    places[..=at].rotate_right(1);
 }

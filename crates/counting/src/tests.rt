@@ -8,9 +8,9 @@ use refusals::Refusal;
 
 // abbb: 0 is in one line, 64, 127 and 64 in the next.
 fn abbb() -> [Line; 4] {
-    let a = Line { address: 0 };
-    let b = Line { address: 64 };
-    [a, b, Line { address: 127 }, b]
+    let a = Line::at(0);
+    let b = Line::at(64);
+    [a, b, Line::at(127), b]
 }
 
 #[test]
@@ -53,14 +53,14 @@ fn cache_without_places(rt: HostRuntime) {
 
 #[test]
 fn cache_of_one_place(rt: HostRuntime) {
-    let mut places = [Line { address: 9000 }];
+    let mut places = [Line::at(9000)];
     assert_eq!(rt; lru_misses(&abbb(), &mut places), 2);
     assert_eq!(rt; places[0].address, 64);
 }
 
 #[test]
 fn cache_with_a_place_to_spare(rt: HostRuntime) {
-    let mut places = [Line { address: 9000 }; 3];
+    let mut places = [Line::at(9000); 3];
     assert_eq!(rt; lru_misses(&abbb(), &mut places), 2);
     assert_eq!(rt; places[0].address, 64);
     assert_eq!(rt; places[1].address, 0);

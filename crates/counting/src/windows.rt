@@ -12,8 +12,8 @@ pub fn distinct_keys<K: Key>(keys: &[K]) -> usize
     ensures bound { result ≤ length keys.now }
 {
     let mut count = 0;
-    for i in 0..keys.len() {
-        if !is_held(&keys[0..i], &keys[i]) {
+    for (i, key) in keys.iter().enumerate() {
+        if !is_held(&keys[..i], key) {
             count += 1;
         }
     }
@@ -28,27 +28,26 @@ pub fn footprint<K: Key>(keys: &[K], window: usize) -> (u128, u128)
     (footprint_total(keys, window), window_count(keys, window))
 }
 
-// The number of windows of a length.
+// The number of windows of a length. (`as` here and below: there is no `From` of a `usize` for a `u128`.)
 fn window_count<K: Key>(keys: &[K], window: usize) -> u128
     ensures { result ≡ length (windows window (reverse keys.now)) }
 {
-    if window > keys.len() {
-        return 0;
-    }
-    (keys.len() - window) as u128 + 1
+    keys.len()
+        .checked_sub(window)
+        .map_or(0, |last| last as u128 + 1)
 }
 
 // The different keys of each window, counted afresh and added up.
 fn footprint_total<K: Key>(keys: &[K], window: usize) -> u128
     ensures { result ≡ total K.same window (reverse keys.now) }
 {
-    if window > keys.len() {
+    // The slice's `windows` has none of length 0, and no key is in those.
+    if window == 0 {
         return 0;
     }
-    let last = keys.len() - window;
     let mut sum = 0u128;
-    for start in 0..last {
-        sum += distinct_keys(&keys[start..start + window]) as u128;
+    for keys in keys.windows(window) {
+        sum += distinct_keys(keys) as u128;
     }
-    sum + distinct_keys(&keys[last..]) as u128
+    sum
 }

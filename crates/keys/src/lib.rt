@@ -2,13 +2,15 @@
 #![tactic(auto)]
 
 mod block;
+mod in_block;
 mod kind;
 mod line;
 mod object;
 mod page;
 
 pub use block::Block;
+pub use in_block::{BlockSize, InBlock};
 pub use kind::Key;
-pub use line::Line;
+pub use line::{CacheLine, Line};
 pub use object::Object;
-pub use page::Page;
+pub use page::{MemoryPage, Page};

@@ -4,7 +4,7 @@ ghost use Rattle.keys.specs.Laws.{of_objects};
 
 use crate::kind::Key;
 
-#[derive(Clone, Copy)]
+#[derive(Clone, Copy, PartialEq, Eq)]
 pub struct Object {
     pub pool: u32,
     pub object: u64,
@@ -16,6 +16,6 @@ impl Key for Object {
     ghost lawful = { of_objects };
 
     fn same_as(&self, other: &Object) -> bool {
-        self.pool == other.pool && self.object == other.object
+        self == other
     }
 }

@@ -1,40 +1,19 @@
 // Page keys: a byte address, for its page of 4,096 bytes.
-ghost use Rattle.keys.specs.Blocks.{one_page};
-ghost use Rattle.keys.specs.Laws.{in_blocks};
-ghost use Rattle.std.proofs.Common.{rules};
+ghost use Rattle.std.specs.Prelude.{refl};
+ghost use Rattle.std.proofs.lemmas.Bool.{ltb-true};
 
-use crate::block::{Block, one_block};
-use crate::kind::Key;
+use crate::in_block::{BlockSize, InBlock};
 
+// The size of a page.
 #[derive(Clone, Copy)]
-pub struct Page {
-    pub address: u64,
+pub struct MemoryPage;
+
+impl BlockSize for MemoryPage {
+    const BYTES: u64 = 4096;
+
+    ghost BYTES = { 4096 };
+
+    ghost some = { ltb-true 0 4096 refl };
 }
 
-impl Key for Page {
-    ghost same = { one_page };
-
-    ghost lawful = { in_blocks 4096 (λ k. k.address) };
-
-    fn same_as(&self, other: &Page) -> bool {
-        one_block(Page::SIZE, self.address, other.address)
-    }
-}
-
-impl Block for Page {
-    const SIZE: u64 = 4096;
-
-    ghost width = { 4096 };
-
-    ghost place = { λ x. x.address };
-
-    ghost some = { Prim.search rules };
-
-    fn block_size() -> u64 {
-        Self::SIZE
-    }
-
-    fn address(&self) -> u64 {
-        self.address
-    }
-}
+pub type Page = InBlock<MemoryPage>;

@@ -1,8 +1,12 @@
 -- Sums over lists, and over the entries of a table. Assumes nothing.
-use Rattle.std.proofs.Common.{◌≡◌, ℕ, zero, suc, ◌+◌, ◌-◌, ◌*◌, ◌<◌, ◌≤◌, cond, ltb, List, [], ◌∷◌, ◌++◌, map, refl, ap, ◌∙◌, ap₂, ⊎_elim, arith}
+use Rattle.std.proofs.Common.{◌≡◌, ℕ, zero, suc, ◌+◌, ◌-◌, ◌*◌, ◌<◌, ◌≤◌, cond, ltb, List, [], ◌∷◌, ◌++◌, map, length, get_or, drop, sym, refl, ap, ◌∙◌, ap₂, ⊎_elim, arith, length-drop}
 use Rattle.std.proofs.lemmas.Bool.{cases_lt}
 use Rattle.std.specs.List.{AllByRecursion}
+use Rattle.std.specs.List.{sum}
+use Rattle.std.proofs.lemmas.List.{drop_all, get_or-drop}
+use Rattle.std.proofs.lemmas.List.Sums.{sum_by-drop_more}
 use Rattle.locality.specs.Numbers.{sum_over, is_number, times, sum_above, count_above}
+use Rattle.locality.specs.Tables.{beyond}
 
 pub sum_over-append : {X : Type 0} (f : X → ℕ) (xs ys : List X) → sum_over f (xs ++ ys) ≡ sum_over f xs + sum_over f ys
 sum_over-append f [] ys = omega arith
@@ -97,3 +101,46 @@ sum_above_more w f zero h = absurd (omega arith)
 sum_above_more w f (suc n) h =
     let z : suc n - 1 ≡ n = omega arith in
     ap (λ m. sum_above w m f + f (suc n)) z ∙ grind arith
+
+-- a table that is read from entry w on
+sum_above_shift : (w n : ℕ) (f g : ℕ → ℕ) → ((i : ℕ) → 1 ≤ i → i ≤ n → f (w + i) ≡ g i) → sum_above w (w + n) f ≡ sum_above 0 n g
+sum_above_shift w zero f g h = sum_above_none w f (w + 0) (omega arith)
+sum_above_shift w (suc n) f g h =
+    let r = sum_above_shift w n f g (λ i l m. h i l (omega arith)) in
+    let e : w + suc n - 1 ≡ w + n = omega arith in
+    sym (sum_above_more w f (w + suc n) (omega arith)) ∙ ap₂ ◌+◌ (ap (λ m. sum_above w m f) e ∙ r) (h (suc n) (omega arith) (omega arith)) ∙ (let z : n ≡ suc n - 1 = omega arith in ap (λ m. sum_above 0 m g + g (suc n)) z) ∙ sum_above_more 0 g (suc n) (omega arith)
+
+pub beyond_from : (w : ℕ) (xs : List ℕ) → w < length xs → beyond w xs ≡ beyond 0 (drop w xs)
+beyond_from w xs h =
+    let last : length xs - 1 ≡ w + (length (drop w xs) - 1) = omega (arith, length-drop w xs) in
+    ap (λ n. sum_above w n (λ i. (i - w) * get_or xs i 0)) last
+    ∙ sum_above_shift w (length (drop w xs) - 1) (λ i. (i - w) * get_or xs i 0) (λ i. (i - 0) * get_or (drop w xs) i 0)
+    (λ i l m. let d : w + i - w ≡ i - 0 = omega arith in ap₂ ◌*◌ d (sym (get_or-drop w xs i 0)))
+
+-- the entries above c, summed
+sum_above_rest : (c n : ℕ) (xs : List ℕ) → c ≤ n → n < length xs → sum_above c n (λ i. get_or xs i 0) + sum (drop (n + 1) xs) ≡ sum (drop (c + 1) xs)
+sum_above_rest c zero xs h m = let e : 0 ≡ c = omega arith in let r = ap (λ k. sum (drop (k + 1) xs)) e in omega (arith, r)
+sum_above_rest c (suc n) xs h m =
+    ⊎_elim
+    (λ (l : c < suc n).
+    let r = sum_above_rest c n xs (omega arith) (omega arith) in
+    let next = sum_by-drop_more (λ x. x) xs (n + 1) 0 (omega arith) in
+    let e : n + 1 ≡ suc n = omega arith in
+    let k : suc n - 1 ≡ n = omega arith in
+    let more = sum_above_more c (λ i. get_or xs i 0) (suc n) l in
+    let more' = ap (λ j. sum_above c j (λ i. get_or xs i 0) + get_or xs (suc n) 0) k in
+    let next' = ap (λ j. get_or xs j 0 + sum (drop (j + 1) xs)) e in
+    omega (arith, r, next, more, more', next'))
+    (λ (l : suc n ≤ c). let e : suc n ≡ c = omega arith in let z = sum_above_none c (λ i. get_or xs i 0) (suc n) l in let r = ap (λ k. sum (drop (k + 1) xs)) e in omega (arith, z, r))
+    (cases_lt c (suc n))
+
+pub sum_above_is : (c : ℕ) (xs : List ℕ) → sum_above c (length xs - 1) (λ i. get_or xs i 0) ≡ sum (drop (c + 1) xs)
+sum_above_is c xs =
+    ⊎_elim
+    (λ (l : c < length xs).
+    let all = drop_all (length xs - 1 + 1) xs (omega arith) in
+    let r = sum_above_rest c (length xs - 1) xs (omega arith) (omega arith) in
+    let none = ap sum all in
+    omega (arith, r, none))
+    (λ (l : length xs ≤ c). sum_above_none c (λ i. get_or xs i 0) (length xs - 1) (omega arith) ∙ sym (ap sum (drop_all (c + 1) xs (omega arith))))
+    (cases_lt c (length xs))

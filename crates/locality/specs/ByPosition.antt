@@ -1,5 +1,5 @@
 -- The same definitions as a textbook gives them: the accesses oldest first, each thing told by its position.
-use Rattle.std.specs.Prelude.{◌≡◌, ℕ, zero, suc, ◌+◌, ◌-◌, ◌≤◌, Bool, false, cond, ◌&&◌, ◌||◌, List, [], ◌∷◌, ◌++◌, map, reverse, length, take, drop, Some, None, filter, Option, ◌==◌, nat_eq, nat_lt}
+use Rattle.std.specs.Prelude.{◌≡◌, ℕ, zero, suc, ◌+◌, ◌-◌, ◌≤◌, Bool, false, if◌then◌else◌, ◌&&◌, ◌||◌, List, [], ◌∷◌, ◌++◌, map, reverse, length, take, drop, Some, None, filter, Option, ◌==◌, nat_eq, nat_lt}
 use Rattle.std.specs.List.{range_with_len, slice_get}
 use Rattle.locality.specs.declared.call.Call.{Call}
 use Rattle.locality.specs.declared.call.Call.TheVariants.{Record, Retract, Clear}
@@ -27,7 +27,7 @@ positions n = range_with_len 1 n
 -- the greatest of the positions 1 to n that passes a test, 0 if none does
 abbrev pub greatest : (ℕ → Bool) → ℕ → ℕ
 greatest passes zero = 0
-greatest passes (suc n) = cond (passes (suc n)) (suc n) (greatest passes n)
+greatest passes (suc n) = if passes (suc n) then suc n else greatest passes n
 
 -- the window of length w that starts at position s
 abbrev pub window : {K : Type 0} → ℕ → ℕ → List K → List K
@@ -62,7 +62,7 @@ module _ {K : Type 0} (same : K → K → Bool) where
 
   -- x for a position that has a former one, nothing for a first position
   abbrev pub unless_first : List K → ℕ → ℕ → Option ℕ
-  unless_first xs t x = cond (former_of xs t == 0) None (Some x)
+  unless_first xs t x = if former_of xs t == 0 then None else Some x
 
   -- the interval of t: t less its former position
   abbrev pub interval_of : List K → ℕ → Option ℕ
@@ -88,7 +88,7 @@ module _ {K : Type 0} (same : K → K → Bool) where
   -- and its misses on the way
   abbrev pub misses_from : ℕ → List K → List K → ℕ
   misses_from c ks [] = 0
-  misses_from c ks (k ∷ later) = cond (held same k ks) 0 1 + misses_from c (accessed same c k ks) later
+  misses_from c ks (k ∷ later) = (if held same k ks then 0 else 1) + misses_from c (accessed same c k ks) later
 
   -- a recency list touched from the oldest access on, the first at time t
   abbrev pub recent_from : ℕ → List (Entry K) → List K → List (Entry K)
@@ -98,7 +98,7 @@ module _ {K : Type 0} (same : K → K → Bool) where
   -- an access appended, where fewer than 4,096 stand and its key is held or a place is free
   abbrev pub appended : ℕ → K → List K → List K
   appended places k xs =
-      cond (nat_lt (length xs) most_accesses && (held same k xs || nat_lt (distinct same xs) places)) (xs ++ (k ∷ [])) xs
+      if nat_lt (length xs) most_accesses && (held same k xs || nat_lt (distinct same xs) places) then xs ++ (k ∷ []) else xs
 
   -- the standing accesses after calls that began on some, oldest first: a record appends, a retract takes the last one
   -- off, a clear empties

@@ -1,5 +1,5 @@
 -- What the calls on a burst answer, said on its log, and the log that a list of calls gives.
-use Rattle.std.specs.Prelude.{◌≡◌, ℕ, ◌+◌, ◌-◌, ◌*◌, ◌<◌, ◌≤◌, Bool, cond, ◌&&◌, ◌||◌, List, [], ◌∷◌, length, Some, None, Ok, Err, Option, Result, nat_le, nat_lt}
+use Rattle.std.specs.Prelude.{◌≡◌, ℕ, ◌+◌, ◌-◌, ◌*◌, ◌<◌, ◌≤◌, Bool, if◌then◌else◌, ◌&&◌, ◌||◌, List, [], ◌∷◌, length, Some, None, Ok, Err, Option, Result, nat_le, nat_lt}
 use Rattle.refusals.specs.declared.Refusal.{Refusal}
 use Rattle.refusals.specs.declared.Refusal.TheVariants.{BurstFull, NoPlace, NothingToRetract, WindowTooLong, NoSuchPosition, NoSuchEntry, SizeAboveKeys}
 use Rattle.locality.specs.declared.call.Call.{Call}
@@ -43,9 +43,7 @@ module _ {K : Type 0} (same : K → K → Bool) where
   -- record: fewer than 4,096 accesses stand, and the key is admitted; then "first" (none), or interval and distance
   abbrev pub record_answer : ℕ → K → List K → Result (Option (ℕ × ℕ)) Refusal
   record_answer places k log =
-      cond (nat_lt (length log) most_accesses)
-      (cond (admits places k log) (Ok (paired (interval same k log) (distance same k log))) (Err NoPlace))
-      (Err BurstFull)
+      if nat_lt (length log) most_accesses then if admits places k log then Ok (paired (interval same k log) (distance same k log)) else Err NoPlace else Err BurstFull
 
   -- the log after a record: one access more, unless it was refused
   abbrev pub record_log : ℕ → K → List K → List K
@@ -68,19 +66,19 @@ module _ {K : Type 0} (same : K → K → Bool) where
 
   -- footprint: a window no longer than the burst; then the total and the number of windows
   abbrev pub footprint_answer : ℕ → List K → Result (ℕ × ℕ) Refusal
-  footprint_answer w log = cond (nat_le w (length log)) (Ok (total same w log, length (windows w log))) (Err WindowTooLong)
+  footprint_answer w log = if nat_le w (length log) then Ok (total same w log, length (windows w log)) else Err WindowTooLong
 
   -- interval: a position from 1 to n; then its interval, none at a first access
   abbrev pub interval_answer : ℕ → List K → Result (Option ℕ) Refusal
-  interval_answer t log = cond (is_position t log) (Ok (interval_at same t log)) (Err NoSuchPosition)
+  interval_answer t log = if is_position t log then Ok (interval_at same t log) else Err NoSuchPosition
 
   -- distance: a position from 1 to n; then its distance, none at a first access
   abbrev pub distance_answer : ℕ → List K → Result (Option ℕ) Refusal
-  distance_answer t log = cond (is_position t log) (Ok (distance_at same t log)) (Err NoSuchPosition)
+  distance_answer t log = if is_position t log then Ok (distance_at same t log) else Err NoSuchPosition
 
   -- gap: an entry from 0 to n; then its gap count
   abbrev pub gap_answer : ℕ → List K → Result ℕ Refusal
-  gap_answer i log = cond (nat_le i (length log)) (Ok (gap_count same i log)) (Err NoSuchEntry)
+  gap_answer i log = if nat_le i (length log) then Ok (gap_count same i log) else Err NoSuchEntry
 
   -- a window length w from 0 to n fills a cache of c places: its total is at least c × (n − w + 1)
   abbrev pub Fills : ℕ → ℕ → List K → Type 0

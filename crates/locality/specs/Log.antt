@@ -2,7 +2,8 @@
 -- A log is the list of the standing keys, newest first: recording puts a key in front, and position t, counted
 -- from 1 at the oldest access, is the head of the part that has length t. `past` is a log before its next access.
 -- Keys are compared by the sameness of their kind. specs/ByPosition.antt says the same by position, oldest first.
-use Rattle.std.specs.Prelude.{ℕ, suc, ◌+◌, ◌-◌, Bool, false, cond, ◌||◌, List, [], ◌∷◌, ◌++◌, map, length, take, drop, Some, None, Option, nat_le}
+use Rattle.std.specs.Prelude.{ℕ, suc, ◌+◌, ◌-◌, Bool, if◌then◌else◌, List, [], ◌∷◌, ◌++◌, map, length, take, drop, Some, None, Option, nat_le}
+use Rattle.std.specs.List.{list_any}
 use Rattle.locality.specs.Numbers.{sum_over, times}
 
 -- the numbers that an answer holds: one, or none
@@ -12,7 +13,7 @@ listed (Some x) = x ∷ []
 
 -- the window of length w that ends at the newest access, if the log is long enough
 abbrev pub newest_window : {K : Type 0} → ℕ → List K → List (List K)
-newest_window w log = cond (nat_le w (length log)) (take w log ∷ []) []
+newest_window w log = if nat_le w (length log) then take w log ∷ [] else []
 
 -- every window of length w: one for each position that it can end at, and at length 0 one before the first
 abbrev pub windows : {K : Type 0} → ℕ → List K → List (List K)
@@ -26,13 +27,12 @@ up_to t log = drop (length log - t) log
 module _ {K : Type 0} (same : K → K → Bool) where
   -- a key is held: a same one stands in the list
   abbrev pub held : K → List K → Bool
-  held k [] = false
-  held k (x ∷ xs) = same k x || held k xs
+  held k xs = list_any (same k) xs
 
   -- the number of different keys
   abbrev pub distinct : List K → ℕ
   distinct [] = 0
-  distinct (x ∷ xs) = cond (held x xs) 0 1 + distinct xs
+  distinct (x ∷ xs) = (if held x xs then 0 else 1) + distinct xs
 
   -- the footprint total: the different keys of each window, counted afresh, added up
   abbrev pub total : ℕ → List K → ℕ
@@ -41,7 +41,7 @@ module _ {K : Type 0} (same : K → K → Bool) where
   -- the former position of an access of k after `past`: the newest position with a same key, 0 if there is none
   abbrev pub former : K → List K → ℕ
   former k [] = 0
-  former k (x ∷ past) = cond (same k x) (suc (length past)) (former k past)
+  former k (x ∷ past) = if same k x then suc (length past) else former k past
 
   -- how far back the former position lies; the access of k itself has the position one above the length of `past`
   abbrev pub back : K → List K → ℕ
@@ -49,11 +49,11 @@ module _ {K : Type 0} (same : K → K → Bool) where
 
   -- the interval of an access of k after `past`: its position less the former one; a first access has none
   abbrev pub interval : K → List K → Option ℕ
-  interval k past = cond (held k past) (Some (back k past)) None
+  interval k past = if held k past then Some (back k past) else None
 
   -- its distance: the different keys from the former position up to the newest, its own key among them
   abbrev pub distance : K → List K → Option ℕ
-  distance k past = cond (held k past) (Some (distinct (take (back k past) past))) None
+  distance k past = if held k past then Some (distinct (take (back k past) past)) else None
 
   -- the interval of the newest access of a log
   abbrev pub newest_interval : List K → Option ℕ
@@ -94,12 +94,12 @@ module _ {K : Type 0} (same : K → K → Bool) where
   -- the first positions of the keys: those whose key no earlier access has
   abbrev pub firsts : List K → List ℕ
   firsts [] = []
-  firsts (k ∷ past) = cond (held k past) [] (suc (length past) ∷ []) ++ firsts past
+  firsts (k ∷ past) = (if held k past then [] else suc (length past) ∷ []) ++ firsts past
 
   -- the positions of a log whose key neither a newer access of it nor one of `newer` has
   abbrev pub lasts_before : List K → List K → List ℕ
   lasts_before newer [] = []
-  lasts_before newer (k ∷ past) = cond (held k newer) [] (suc (length past) ∷ []) ++ lasts_before (k ∷ newer) past
+  lasts_before newer (k ∷ past) = (if held k newer then [] else suc (length past) ∷ []) ++ lasts_before (k ∷ newer) past
 
   -- the last positions of the keys: those whose key no newer access has
   abbrev pub lasts : List K → List ℕ

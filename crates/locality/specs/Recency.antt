@@ -1,7 +1,7 @@
 -- The recency list: what has been accessed, newest first, and what a touch and a put back make of it.
 -- Its entries are keys with times; the time of an access is its position.
-use Rattle.std.specs.Prelude.{◌≡◌, ℕ, suc, ◌<◌, ◌≤◌, Bool, false, cond, not, List, [], ◌∷◌, map, length, Some, None, Option, ◌==◌, nat_lt}
-use Rattle.std.specs.List.{prefix_len, AllByRecursion}
+use Rattle.std.specs.Prelude.{◌≡◌, ℕ, suc, ◌<◌, ◌≤◌, Bool, false, if◌then◌else◌, List, [], ◌∷◌, map, length, Some, None, Option, ◌==◌, nat_lt}
+use Rattle.std.specs.List.{AllByRecursion}
 use Rattle.locality.specs.declared.entry.Entry.{Entry}
 
 -- the entry of a key and a time
@@ -19,26 +19,22 @@ times_of es = map (λ e. e.time) es
 -- the first element of a list that passes a test, or x
 abbrev pub first_where : {X : Type 0} → (X → Bool) → X → List X → X
 first_where passes x [] = x
-first_where passes x (y ∷ ys) = cond (passes y) y (first_where passes x ys)
-
--- the index of the first element of a list that passes a test, or the length
-abbrev pub index_where : {X : Type 0} → (X → Bool) → List X → ℕ
-index_where passes xs = prefix_len (λ x. not (passes x)) xs
+first_where passes x (y ∷ ys) = if passes y then y else first_where passes x ys
 
 -- a list without the first element that passes a test
 abbrev pub without : {X : Type 0} → (X → Bool) → List X → List X
 without passes [] = []
-without passes (y ∷ ys) = cond (passes y) ys (y ∷ without passes ys)
+without passes (y ∷ ys) = if passes y then ys else y ∷ without passes ys
 
 -- an entry put behind those with later times: in front of the first entry that is not later
 abbrev pub placed : {K : Type 0} → Entry K → List (Entry K) → List (Entry K)
 placed e [] = e ∷ []
-placed e (f ∷ fs) = cond (nat_lt e.time f.time) (f ∷ placed e fs) (e ∷ f ∷ fs)
+placed e (f ∷ fs) = if nat_lt e.time f.time then f ∷ placed e fs else e ∷ f ∷ fs
 
 -- a put back: at time 0 the front entry goes, else it takes the time and moves behind all entries with later times
 abbrev pub put_back : {K : Type 0} → ℕ → List (Entry K) → List (Entry K)
 put_back t [] = []
-put_back t (e ∷ es) = cond (t == 0) es (placed (at_time e.key t) es)
+put_back t (e ∷ es) = if t == 0 then es else placed (at_time e.key t) es
 
 -- times that fall from the front on: newest first
 abbrev pub Falling : {K : Type 0} → List (Entry K) → Type 0
@@ -74,7 +70,7 @@ module _ {K : Type 0} (same : K → K → Bool) where
   -- what a touch answers of a held key: its depth, counted from 1, and its time
   abbrev pub found : K → List (Entry K) → Option (ℕ × ℕ)
   found k [] = None
-  found k (e ∷ es) = cond (same k e.key) (Some (1, e.time)) (deeper (found k es))
+  found k (e ∷ es) = if same k e.key then Some (1, e.time) else deeper (found k es)
 
   -- the entries without the first that has a same key; an orderly list has no other
   abbrev pub others : K → List (Entry K) → List (Entry K)

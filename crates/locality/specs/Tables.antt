@@ -1,5 +1,5 @@
 -- Tables of counts, as a program holds them: entries 0 to n for a burst of n accesses, at most 4,096.
-use Rattle.std.specs.Prelude.{◌≡◌, ℕ, suc, ◌+◌, ◌-◌, ◌*◌, ◌≤◌, Bool, cond, ◌&&◌, List, length, Some, None, Option, nat_le, slice_index}
+use Rattle.std.specs.Prelude.{◌≡◌, ℕ, suc, ◌+◌, ◌-◌, ◌*◌, ◌≤◌, Bool, if◌then◌else◌, ◌&&◌, List, length, Some, None, Option, nat_le, slice_index}
 use Rattle.locality.specs.Numbers.{sum_above}
 use Rattle.locality.specs.Log.{distinct}
 use Rattle.locality.specs.Calls.{most_accesses}
@@ -14,7 +14,7 @@ last_entry table = length table - 1
 
 -- a difference that does not truncate
 abbrev pub difference : ℕ → ℕ → Option ℕ
-difference a b = cond (nat_le b a) (Some (a - b)) None
+difference a b = if nat_le b a then Some (a - b) else None
 
 -- the sum over the entries i above w of (i − w) × entry i
 abbrev pub beyond : ℕ → List ℕ → ℕ
@@ -23,11 +23,11 @@ beyond w table = sum_above w (last_entry table) (λ i. (i - w) * slice_index tab
 -- the footprint formula on a gap table and m keys; none for what is no table, for a length past n, and where the sum is too large
 abbrev pub total_of_table : ℕ → ℕ → List ℕ → Option ℕ
 total_of_table w m table =
-    cond (is_table table && nat_le w (last_entry table)) (difference (m * (last_entry table - w + 1)) (beyond w table)) None
+    if is_table table && nat_le w (last_entry table) then difference (m * (last_entry table - w + 1)) (beyond w table) else None
 
 -- the misses of size c on a table of depth counts and m keys; none for what is no table
 abbrev pub misses_of_table : ℕ → ℕ → List ℕ → Option ℕ
-misses_of_table c m table = cond (is_table table) (Some (m + sum_above c (last_entry table) (λ d. slice_index table d))) None
+misses_of_table c m table = if is_table table then Some (m + sum_above c (last_entry table) (λ d. slice_index table d)) else None
 
 -- a table has the counts of a log at its entries 0 to n
 pub record TableOf {K : Type 0} (count : ℕ → List K → ℕ) (log : List K) (table : List ℕ) : Type 0 where

@@ -4,7 +4,7 @@ use Rattle.std.specs.List.{range_with_len, AllByRecursion}
 use Rattle.refusals.specs.declared.Refusal.{Refusal}
 use Rattle.refusals.specs.declared.Refusal.TheVariants.{SizeAboveKeys}
 use Rattle.refusals.specs.Numbers.{number_of}
-use Rattle.keys.specs.Blocks.{one_line}
+use Rattle.keys.specs.Blocks.{one_line, line_at}
 use Rattle.locality.specs.declared.call.Call.{Call}
 use Rattle.locality.specs.declared.call.Call.TheVariants.{Record, Retract, Clear}
 use Rattle.locality.specs.Log.{windows, total, distinct, gap_count}
@@ -65,7 +65,7 @@ Holds (unfilled accesses c number) =
     FillAnswer nat_eq c (reverse accesses) (Err SizeAboveKeys)
     × ((w : ℕ) → FillAnswer nat_eq c (reverse accesses) (Ok w) → ⊥)
     × (number_of SizeAboveKeys ≡ number)
-Holds (lined p q answer) = one_line (record { address = p }) (record { address = q }) ≡ answer
+Holds (lined p q answer) = one_line (line_at p) (line_at q) ≡ answer
 
 -- the letter a
 abbrev a : ℕ

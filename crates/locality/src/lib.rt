@@ -4,6 +4,7 @@
 
 mod call;
 mod entry;
+mod table;
 mod tables;
 #[cfg(test)]
 mod tests;

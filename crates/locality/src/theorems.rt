@@ -1,11 +1,12 @@
 // The theorems, each the contract of a function named after what it says, over every lawful key kind.
 // Where a computation goes with a theorem, the function makes it; the others have nothing to answer.
-ghost use Rattle.std.specs.Prelude.{List};
+ghost use Rattle.std.specs.Prelude.{◌≡◌, List};
+ghost use Rattle.keys.specs.Blocks.{one_line, one_page};
 ghost use Rattle.locality.specs.Statements.{TotalFromTable, MissesFromTable, TablesTellTotals, NextFromRecency, RecencyList, PutBackUndoes, DepthFromTimes, WholeBurstFills, EntryZeroIsEmpty, TextbookAgrees};
 ghost use Rattle.locality.specs.Worked.{WorkedBursts};
 
 use crate::tables::{same_tables, table_misses, table_total};
-use keys::Key;
+use keys::{Key, Line, Page};
 
 // The footprint total of a window length, from a gap table and the number of different keys, visiting no window.
 // None where the table has no entry or more than 4,097, where the window is longer than the burst, and where the sum of
@@ -66,7 +67,10 @@ pub fn textbook_agrees<K: Key>()
     ensures { TextbookAgrees K.same }
 {}
 
-// The worked bursts have the values that docs/LOCALITY.md states.
+// The worked bursts have the values that docs/LOCALITY.md states; the sameness of line keys and of page keys is that of
+// blocks of 64 and of 4,096 bytes.
 pub fn worked_bursts()
-    ensures { WorkedBursts }
+    ensures bursts { WorkedBursts }
+    ensures lines { ⟦<Line as Key>⟧.same ≡ one_line }
+    ensures pages { ⟦<Page as Key>⟧.same ≡ one_page }
 {}

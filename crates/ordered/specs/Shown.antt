@@ -1,24 +1,19 @@
 -- What an ordered store holds, and what its calls make of it.
-use Rattle.std.specs.Prelude.{◌≡◌, ℕ, min, Bool, true, false, List, take, Option, Result}
+use Rattle.std.specs.Prelude.{◌≡◌, ℕ, Bool, List, take, Option, Result}
 use Rattle.refusals.specs.declared.Refusal.{Refusal}
 use Rattle.locality.specs.declared.entry.Entry.{Entry}
 use Rattle.locality.specs.Recency.{put_back}
 use Rattle.locality.specs.Slices.{in_front}
-use Rattle.recency.specs.Rules.{most_places, places_in, touch_answer, touch_list, Kept, Touching, PuttingBack}
+use Rattle.recency.specs.Rules.{places_in, touch_answer, touch_list, Kept, Touching, PuttingBack}
 use Rattle.ordered.specs.declared.store.Ordered.{Ordered}
-
--- a fact that is told where a test fails
-abbrev pub Unless : Bool → Type 0 → Type 0
-Unless true P = Unit {0}
-Unless false P = P
 
 -- the number of places: the slice's length, at most 4,096
 abbrev pub ordered_places : {K : Type 0} → Ordered K → ℕ
 ordered_places s = places_in s.slots.now
 
--- the list: the first `count` slots, of those that are places
+-- the list: the first `count` slots
 abbrev pub ordered_list : {K : Type 0} → Ordered K → List (Entry K)
-ordered_list s = take (min s.count most_places) s.slots.now
+ordered_list s = take s.count s.slots.now
 
 -- an ordered store is sound: its list is as the rules keep it
 abbrev pub ordered_sound : {K : Type 0} → (K → K → Bool) → Ordered K → Type 0

@@ -2,7 +2,6 @@
 #![tactic(auto)]
 
 mod moves;
-mod searches;
 mod store;
 #[cfg(test)]
 mod tests;

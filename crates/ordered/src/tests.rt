@@ -1,4 +1,5 @@
-// Both ends of every bound, and what a store leaves in the caller's slice.
+// Both ends of every bound, and what a store leaves in the caller's slice. (The tests of the crate `unordered` are alike, on the
+// other store: the two crates share nothing that is only for tests.)
 ghost use Rattle.std.specs.Prelude.{◌≡◌, []};
 ghost use Rattle.locality.specs.Slices.{in_front};
 ghost use Rattle.recency.specs.Rules.{places_in, touch_list};
@@ -11,7 +12,7 @@ use std::test::Fail;
 
 fn line(address: u64, time: u16) -> Entry<Line> {
     Entry {
-        key: Line { address },
+        key: Line::at(address),
         time,
     }
 }
@@ -40,8 +41,8 @@ fn slices_of_every_length(rt: HostRuntime) {
 fn entries_at_both_ends(rt: HostRuntime) -> Result<(), Fail> {
     let mut slots = [line(0, 9); 3];
     let mut store = Ordered::new(&mut slots);
-    let _ = store.touch(Line { address: 64 }, 1);
-    let _ = store.touch(Line { address: 128 }, 2);
+    let _ = store.touch(Line::at(64), 1);
+    let _ = store.touch(Line::at(128), 2);
     assert!(rt; store.entry(0).is_none());
     assert_eq!(rt; store.entry(1).ok_or("none")?.time, 2);
     assert_eq!(rt; store.entry(2).ok_or("none")?.key.address, 64);
@@ -53,7 +54,7 @@ fn entries_at_both_ends(rt: HostRuntime) -> Result<(), Fail> {
 #[test]
 fn left_in_the_slice(rt: HostRuntime) {
     let mut slots = [line(5, 9); 2];
-    touched_once(&mut slots, Line { address: 64 });
+    touched_once(&mut slots, Line::at(64));
     assert_eq!(rt; slots[0].time, 1);
     assert_eq!(rt; slots[1].key.address, 5);
 }

@@ -1,6 +1,6 @@
 -- Entries by falling time: one entry put in or taken out, where it stands, and what the rules make of it. Assumes nothing.
 use Rattle.std.proofs.Common.{◌≡◌, ℕ, zero, suc, ◌+◌, ◌<◌, ◌≤◌, Bool, true, false, ltb, leb, List, [], ◌∷◌, ◌++◌, length, get_or, Some, None, sym, refl, ap, ◌∙◌, subst, ap₂, ⊎_elim, arith}
-use Rattle.std.specs.List.{AllByRecursion, slice_get}
+use Rattle.std.specs.List.{AllByRecursion, slice_get, position_or_len}
 use Rattle.std.specs.List.Sorted.{IsPermutation}
 use Rattle.std.proofs.ByRecursion.{All-weaker, All-get_or, All-take, all_shuffled}
 use Rattle.std.proofs.lemmas.List.{take_at}
@@ -12,7 +12,7 @@ use Rattle.locality.specs.declared.entry.Entry.{Entry}
 use Rattle.locality.specs.ByPosition.{key_at}
 use Rattle.locality.specs.Log.{held}
 use Rattle.locality.specs.Numbers.{count_above}
-use Rattle.locality.specs.Recency.{at_time, keys, times_of, index_where, placed, Falling, Apart, stored, found, others, touched}
+use Rattle.locality.specs.Recency.{at_time, keys, times_of, placed, Falling, Apart, stored, found, others, touched}
 use Rattle.locality.proofs.Recency.{placed_front}
 use Rattle.locality.proofs.Sameness.{flip, left}
 use Rattle.recency.specs.ByTime.{by_time, NotRising, SortedByTime}
@@ -153,7 +153,7 @@ module _ {K : Type 0} where
   count_none t (e ∷ es) h = rw (le-ltb t e.time h.0) (omega (arith, count_none t es h.1))
 
   -- in a list that falls, those with later times are the first
-  count_first : (t : ℕ) (es : List (Entry K)) → Falling es → count_above t (times_of es) ≡ index_where (λ x. leb x.time t) es
+  count_first : (t : ℕ) (es : List (Entry K)) → Falling es → count_above t (times_of es) ≡ position_or_len (λ x. leb x.time t) es
   count_first t [] f = refl
   count_first t (e ∷ es) f =
       ⊎_elim
@@ -173,18 +173,18 @@ module _ {K : Type 0} where
       rw (lt-ltb (get_or es i d).time e.time l) (omega (arith, count_at es i d f.1 (omega arith)))
 
   -- an entry put into a list that falls stands behind those with later times
-  pub count_own : (x : Entry K) (es : List (Entry K)) → Falling es → count_above x.time (times_of (placed x es)) ≡ index_where (λ y. leb y.time x.time) es
+  pub count_own : (x : Entry K) (es : List (Entry K)) → Falling es → count_above x.time (times_of (placed x es)) ≡ position_or_len (λ y. leb y.time x.time) es
   count_own x es f =
       let own : count_above x.time (times_of (x ∷ es)) ≡ count_above x.time (times_of es) = rw (le-ltb x.time x.time (omega arith)) (omega arith) in
       count_placed x.time x es ∙ own ∙ count_first x.time es f
 
   -- the entry that was put in, by its index
-  nth_placed : (x : Entry K) (es : List (Entry K)) → slice_get (placed x es) (index_where (λ y. leb y.time x.time) es) ≡ Some x
+  nth_placed : (x : Entry K) (es : List (Entry K)) → slice_get (placed x es) (position_or_len (λ y. leb y.time x.time) es) ≡ Some x
   nth_placed x [] = refl
   nth_placed x (y ∷ ys) =
       ⊎_elim
       (λ (l : x.time < y.time).
-      let n : 1 + index_where (λ z. leb z.time x.time) ys ≡ suc (index_where (λ z. leb z.time x.time) ys) = omega arith in
+      let n : 1 + position_or_len (λ z. leb z.time x.time) ys ≡ suc (position_or_len (λ z. leb z.time x.time) ys) = omega arith in
       rw (lt-ltb x.time y.time l, lt-leb y.time x.time l, n) (nth_placed x ys))
       (λ (l : y.time ≤ x.time). rw (le-ltb x.time y.time l, le-leb y.time x.time l))
       (cases_lt x.time y.time)
@@ -193,7 +193,7 @@ module _ {K : Type 0} where
   pub entry_placed : (x : Entry K) (es : List (Entry K)) (j : ℕ) → Falling (placed x es) → count_above x.time (times_of (placed x es)) + 1 ≡ j → key_at (placed x es) j ≡ Some x
   entry_placed x es zero f e = absurd (omega arith)
   entry_placed x es (suc i) f e =
-      let at : i ≡ index_where (λ y. leb y.time x.time) es = omega (arith, count_own x es (falling_out x es f).1) in
+      let at : i ≡ position_or_len (λ y. leb y.time x.time) es = omega (arith, count_own x es (falling_out x es f).1) in
       ap (slice_get (placed x es)) at ∙ nth_placed x es
 
   -- where no entry has j − 1 later ones, there is no j-th
@@ -223,12 +223,12 @@ module _ {K : Type 0} where
           (λ (l : y.time ≤ x.time). rw (le-ltb x.time y.time l, has))
           (cases_lt x.time y.time)
 
-      pub found-placed : (es : List (Entry K)) → AllByRecursion (λ y. same k y.key ≡ false) es → found same k (placed x es) ≡ Some (suc (index_where (λ y. leb y.time x.time) es), x.time)
+      pub found-placed : (es : List (Entry K)) → AllByRecursion (λ y. same k y.key ≡ false) es → found same k (placed x es) ≡ Some (suc (position_or_len (λ y. leb y.time x.time) es), x.time)
       found-placed [] h = rw has
       found-placed (y ∷ ys) h =
           ⊎_elim
           (λ (l : x.time < y.time).
-          let n : 1 + index_where (λ z. leb z.time x.time) ys ≡ suc (index_where (λ z. leb z.time x.time) ys) = omega arith in
+          let n : 1 + position_or_len (λ z. leb z.time x.time) ys ≡ suc (position_or_len (λ z. leb z.time x.time) ys) = omega arith in
           rw (lt-ltb x.time y.time l, lt-leb y.time x.time l, h.0, found-placed ys h.1, n))
           (λ (l : y.time ≤ x.time). rw (le-ltb x.time y.time l, le-leb y.time x.time l, has))
           (cases_lt x.time y.time)

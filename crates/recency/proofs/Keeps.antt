@@ -183,7 +183,6 @@ module _ {K : Type 0} {same : K → K → Bool} (laws : Lawful same) where
       Touching same k t room room' es es' (Kept same room es) (Kept same room' es') r
   owed_touch k t room room' es es' r places told = record {
     places = places;
-    kept = λ s. s;
     answers = λ s l. (told s l).0;
     list = λ s l. (told s l).1;
     stays = λ s l. subst (λ (m : ℕ). Kept same m es') (sym places) (subst (Kept same room) (sym (told s l).1) (touch-kept room k t es s l));
@@ -194,7 +193,6 @@ module _ {K : Type 0} {same : K → K → Bool} (laws : Lawful same) where
       PuttingBack same t room room' es es' (Kept same room es) (Kept same room' es')
   owed_back t room room' es es' places told = record {
     places = places;
-    kept = λ s. s;
     list = told;
     stays = λ s r. subst (λ (m : ℕ). Kept same m es') (sym places) (subst (Kept same room) (sym (told s r)) (back-kept room t es s r));
   }

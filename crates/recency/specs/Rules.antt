@@ -1,6 +1,6 @@
 -- The rules of a recency store: what it answers, what becomes of its list, and the premises of its calls.
 -- A list has the entries newest first. What a touch and a put back make of a list is said in locality, specs/Recency.antt.
-use Rattle.std.specs.Prelude.{◌≡◌, ℕ, ◌<◌, ◌≤◌, min, Bool, cond, ◌||◌, List, [], ◌∷◌, length, Some, None, Ok, Err, Option, Result, ◌≢◌, nat_lt}
+use Rattle.std.specs.Prelude.{◌≡◌, ℕ, ◌<◌, ◌≤◌, min, Bool, if◌then◌else◌, ◌||◌, List, [], ◌∷◌, length, Some, None, Ok, Err, Option, Result, ◌≢◌, nat_lt}
 use Rattle.std.specs.List.{AllByRecursion}
 use Rattle.refusals.specs.declared.Refusal.{Refusal}
 use Rattle.refusals.specs.declared.Refusal.TheVariants.{NoPlace}
@@ -48,18 +48,17 @@ module _ {K : Type 0} (same : K → K → Bool) where
 
   -- touch: of a held key its depth and former time; "first" (none) where a place is free; else it refuses
   abbrev pub touch_answer : ℕ → K → List (Entry K) → Result (Option (ℕ × ℕ)) Refusal
-  touch_answer places k es = cond (has_room places k es) (Ok (found same k es)) (Err NoPlace)
+  touch_answer places k es = if has_room places k es then Ok (found same k es) else Err NoPlace
 
   -- the list after a touch at time t: as it was where the touch is refused
   abbrev pub touch_list : ℕ → K → ℕ → List (Entry K) → List (Entry K)
-  touch_list places k t es = cond (has_room places k es) (touched same k t es) es
+  touch_list places k t es = if has_room places k es then touched same k t es else es
 
 -- what every touch of k at time t owes, of a store's number of places, list and soundness before and after it: the places
--- stay, always; of a sound store the list is as the rules keep it; under the premise, too, its answer and its list are
--- by the rules, and it stays sound. All else is free.
+-- stay, always; of a sound store, under the premise, answer and list are by the rules, and it stays sound. All else is
+-- free. (That a sound store's list is as the rules keep it is a law of the trait.)
 pub record Touching {K : Type 0} (same : K → K → Bool) (k : K) (t room room' : ℕ) (es es' : List (Entry K)) (sound sound' : Type 0) (r : Result (Option (ℕ × ℕ)) Refusal) : Type 0 where
   pub places : room' ≡ room
-  pub kept : sound → Kept same room es
   pub answers : sound → Later t es → r ≡ touch_answer same room k es
   pub list : sound → Later t es → es' ≡ touch_list same room k t es
   pub stays : sound → Later t es → sound'
@@ -67,7 +66,6 @@ pub record Touching {K : Type 0} (same : K → K → Bool) (k : K) (t room room'
 -- what every put back of the time t owes, likewise
 pub record PuttingBack {K : Type 0} (same : K → K → Bool) (t room room' : ℕ) (es es' : List (Entry K)) (sound sound' : Type 0) : Type 0 where
   pub places : room' ≡ room
-  pub kept : sound → Kept same room es
   pub list : sound → Returns t es → es' ≡ put_back t es
   pub stays : sound → Returns t es → sound'
 

@@ -10,11 +10,8 @@ use locality::Entry;
 pub fn touched_entry<K: Key>(stored: Option<Entry<K>>, key: K, time: u16) -> Entry<K>
     ensures { result ≡ at_time (stored_or stored key) time }
 {
-    match stored {
-        Some(entry) => Entry {
-            key: entry.key,
-            time,
-        },
-        None => Entry { key, time },
+    Entry {
+        key: stored.map_or(key, |entry| entry.key),
+        time,
     }
 }

@@ -1,5 +1,6 @@
 // What holds of every store that keeps its meaning, from the trait alone. As in the trait, what is told of the answer and
-// the list holds of a sound store under the premise of a touch, and is free otherwise.
+// the list holds of a sound store under the premise of a touch, and is free otherwise. `peek` and `touch_keeping` have a
+// private function each with their contract: a wrong public body then breaks a contract, and not only a proof file.
 ghost use Rattle.std.specs.Prelude.{◌≡◌, ◌≤◌, true, ◌&&◌, ◌||◌, [], is_err};
 ghost use Rattle.locality.specs.Log.{held};
 ghost use Rattle.locality.specs.Recency.{former_time, keys};
@@ -43,10 +44,7 @@ fn touch_and_back<S: RecencyStore>(
 fn former_time(answer: Option<(u32, u16)>) -> u16
     ensures { result ≡ former_time answer }
 {
-    match answer {
-        Some((_, former)) => former,
-        None => 0,
-    }
+    answer.map_or(0, |(_, former)| former)
 }
 
 // A touch. A key is then held if it was before, or if it is the one touched and that was not refused.
@@ -85,23 +83,8 @@ pub fn first_touch<S: RecencyStore>(
     ensures list { S.entries store.new ≡ touch_list S.Key.Key.same (S.room store.old) key 1 [] }
     ensures sound { S.sound store.new }
 {
-    touch_emptied(store, key, 1)
-}
-
-// A touch of a store that is emptied first, at a time from 1 to 4,096.
-fn touch_emptied<S: RecencyStore>(
-    store: &mut S,
-    key: S::Key,
-    time: u16,
-) -> Result<Option<(u32, u16)>, Refusal>
-    requires { (1 ≤ time) × (time ≤ 4096) }
-    ensures places { S.room store.new ≡ S.room store.old }
-    ensures answer { result ≡ touch_answer S.Key.Key.same (S.room store.old) key [] }
-    ensures list { S.entries store.new ≡ touch_list S.Key.Key.same (S.room store.old) key time [] }
-    ensures sound { S.sound store.new }
-{
     store.empty();
-    store.touch(key, time)
+    store.touch(key, 1)
 }
 
 // The rules keep every list in recency order, each key once, within its places.

@@ -2,7 +2,7 @@
 // by another byte of its block.
 ghost use Rattle.std.specs.Prelude.{◌<◌};
 
-use keys::{Key, Line, Object, Page};
+use keys::{BlockSize, InBlock, Key, Object};
 use locality::Entry;
 use std::fmt;
 
@@ -26,32 +26,19 @@ fn number_of(letter: u8) -> u8
     }
 }
 
-// The first byte of a letter's block, or the last one for a capital.
-fn byte_of(letter: u8, size: u16) -> u64 {
-    let first = u64::from(number_of(letter)) * u64::from(size);
+// The first byte of a letter's block, or the last one for a capital. (What the sizes here give fits 64 bits; a bound on every
+// size would be one more law.)
+fn byte_of(letter: u8, size: u64) -> u64 {
+    let first = u64::from(number_of(letter)).saturating_mul(size);
     if letter.is_ascii_uppercase() {
-        return first + u64::from(size.saturating_sub(1));
+        return first.saturating_add(size.saturating_sub(1));
     }
     first
 }
 
-impl Lettered for Line {
-    fn lettered(letter: u8) -> Line {
-        Line {
-            address: byte_of(letter, 64),
-        }
-    }
-
-    fn show<W: fmt::Write>(&self, f: &mut fmt::Formatter<W>) -> fmt::Result {
-        write!(f, "{}", self.address)
-    }
-}
-
-impl Lettered for Page {
-    fn lettered(letter: u8) -> Page {
-        Page {
-            address: byte_of(letter, 4096),
-        }
+impl<B: BlockSize> Lettered for InBlock<B> {
+    fn lettered(letter: u8) -> Self {
+        InBlock::at(byte_of(letter, B::BYTES))
     }
 
     fn show<W: fmt::Write>(&self, f: &mut fmt::Formatter<W>) -> fmt::Result {

@@ -1,48 +1,21 @@
 -- Entries in slots, where a time of 0 marks a free one. Assumes nothing.
-use Rattle.std.proofs.Common.{◌≡◌, ℕ, zero, suc, ◌+◌, ◌<◌, ◌≤◌, min, Bool, true, false, cond, eqb, ltb, leb, List, [], ◌∷◌, ◌++◌, map, length, get_or, take, drop, set, Some, None, sym, refl, ap, ◌∙◌, subst, arith}
-use Rattle.std.specs.List.{AllByRecursion}
+use Rattle.std.proofs.Common.{◌≡◌, ℕ, suc, ◌+◌, ◌<◌, ◌≤◌, true, cond, ltb, leb, List, [], ◌∷◌, ◌++◌, length, take, drop, set, Some, None, Option, sym, refl, ap, ◌∙◌, subst, arith}
+use Rattle.std.specs.List.{AllByRecursion, position_or_len}
 use Rattle.std.proofs.lemmas.Bool.{lt-ltb, le-ltb, ltb-true}
 use Rattle.std.proofs.lemmas.List.Elements.{filter-append}
-use Rattle.std.proofs.ByRecursion.{All-weaker, All-more, all_kept_by, kept_by_passes}
+use Rattle.std.proofs.ByRecursion.{All-weaker, all_kept_by, kept_by_passes}
 use Rattle.std.proofs.lemmas.List.Sums.{length-filter, count_by-le-length}
-use Rattle.std.proofs.lemmas.List.{drop_more, drop_all, get_or_default, get_or_read, get_or-take, length-append, length-take, length-drop, set-get_or, set_split}
+use Rattle.std.proofs.lemmas.List.{length-append, length-take, length-drop, set-get_or, set_split}
+use Rattle.std.specs.List.{slice_get}
+use Rattle.std.proofs.lemmas.Option.{slice_get_within, get_or_from_slice_get}
 use Rattle.locality.specs.declared.entry.Entry.{Entry}
 use Rattle.locality.specs.ByPosition.{key_at}
 use Rattle.locality.specs.Numbers.{count_above}
-use Rattle.locality.specs.Recency.{at_time, times_of, index_where, placed, Falling}
-use Rattle.locality.proofs.Finds.{at_passes, none_passes}
+use Rattle.locality.specs.Recency.{times_of, placed, Falling}
 use Rattle.locality.proofs.Sameness.{all_both}
 use Rattle.recency.specs.ByTime.{by_time}
 use Rattle.recency.proofs.ByTime.{all_by_time, by_time_out, count_by_time, count_own, entry_placed, entry_none, falling_out}
-use Rattle.unordered.specs.Shown.{held_in}
-
-module _ {X : Type 0} where
-  -- x stands in slot p
-  abbrev pub InSlot : List X → ℕ → X → Type 0
-  InSlot L p x = (p < length L) × (x ≡ get_or L p x)
-
-  -- what is read in the front of a slice
-  pub slot_read : (n : ℕ) (S : List X) (p : ℕ) (d : X) → p < min (length S) n → InSlot (take n S) p (get_or S p d)
-  slot_read n S p d h =
-      let x = get_or S p d in
-      (omega (arith, length-take n S), get_or_default S p d x (omega arith) ∙ sym (get_or-take n S p x (omega arith)))
-
-  -- the first that passes a test there
-  pub slot_passes : (passes : X → Bool) (n : ℕ) (S : List X) (p : ℕ) (d : X) → p ≡ index_where passes (take n S) → p < min (length S) n → passes (get_or S p d) ≡ true
-  slot_passes passes n S p d e h =
-      let within : index_where passes (take n S) < length (take n S) = omega (arith, length-take n S) in
-      ap passes (sym (get_or-take n S p d (omega arith))) ∙ ap (λ i. passes (get_or (take n S) i d)) e ∙ at_passes passes (take n S) d within
-
-  -- or none does
-  pub slots_fail : (passes : X → Bool) (n : ℕ) (S : List X) (p : ℕ) → p ≡ index_where passes (take n S) → min (length S) n ≤ p → AllByRecursion (λ x. passes x ≡ false) (take n S)
-  slots_fail passes n S p e h = none_passes passes (take n S) (omega (arith, length-take n S))
-
-  -- a write in the front of a slice
-  pub take_set_in : (n : ℕ) (S : List X) (p : ℕ) (y : X) → take n (set S p y) ≡ set (take n S) p y
-  take_set_in zero S p y = refl
-  take_set_in (suc n) [] p y = refl
-  take_set_in (suc n) (s ∷ S) zero y = refl
-  take_set_in (suc n) (s ∷ S) (suc p) y = ap {B = List X} (λ ys. s ∷ ys) (take_set_in n S p y)
+use Rattle.unordered.specs.Shown.{held_in, RankedIn}
 
 module _ {K : Type 0} where
   -- no slot has a time
@@ -51,15 +24,9 @@ module _ {K : Type 0} where
   all_free (e ∷ es) h = rw (le-ltb 0 e.time (omega (arith, h.0))) (all_free es h.1)
 
   -- every slot has one
-  pub none_free : (L : List (Entry K)) → AllByRecursion (λ e. eqb e.time 0 ≡ false) L → held_in L ≡ L
+  pub none_free : (L : List (Entry K)) → AllByRecursion (λ e. 1 ≤ e.time) L → held_in L ≡ L
   none_free [] h = refl
   none_free (e ∷ es) h = let r = none_free es h.1 in let l = h.0 in grind arith
-
-  -- the front of a slice, freed
-  pub freed_front : (n : ℕ) (S : List (Entry K)) → held_in (take n (map (λ e. at_time e.key 0) (take n S) ++ drop n S)) ≡ []
-  freed_front zero S = refl
-  freed_front (suc n) [] = refl
-  freed_front (suc n) (e ∷ es) = freed_front n es
 
   -- a free slot counts for no later time
   pub count_held_in : (t : ℕ) (L : List (Entry K)) → count_above t (times_of (held_in L)) ≡ count_above t (times_of L)
@@ -97,6 +64,7 @@ module _ {K : Type 0} where
       ap held_in (set_split L p x h) ∙ filter-append (λ e. ltb 0 e.time) (take p L) (x ∷ drop (suc p) L)
       ∙ ap (λ b. before L p ++ cond b (x ∷ behind L p) (behind L p)) (le-ltb 0 x.time low)
 
+  -- no more entries are held than there are slots
   held-most : (L : List (Entry K)) → length (held_in L) ≤ length L
   held-most L = omega (arith, length-filter (λ e. ltb 0 e.time) L, count_by-le-length (λ e. ltb 0 e.time) L)
 
@@ -106,15 +74,22 @@ module _ {K : Type 0} where
       omega (arith, length-append (before L p) (behind L p), held-most (take p L), held-most (drop (suc p) L), length-take p L, length-drop (suc p) L)
 
   -- a slot as it stands
-  module _ (L : List (Entry K)) (p : ℕ) (x : Entry K) (at : InSlot L p x) where
+  module _ (L : List (Entry K)) (p : ℕ) (x : Entry K) (at : slice_get L p ≡ Some x) where
+    -- it is one of them
+    pub within : p < length L
+    within = slice_get_within L p x at
+
+    -- writing its entry again changes nothing
     unchanged : L ≡ set L p x
-    unchanged = sym (ap (set L p) at.1 ∙ set-get_or L p x)
+    unchanged = sym (ap (set L p) (sym (get_or_from_slice_get L p x x at)) ∙ set-get_or L p x)
 
+    -- the held entries, where its entry is one
     pub held_at : 1 ≤ x.time → held_in L ≡ before L p ++ x ∷ behind L p
-    held_at n = ap held_in unchanged ∙ held_set L p x at.0 n
+    held_at n = ap held_in unchanged ∙ held_set L p x within n
 
+    -- and where it is free
     pub free_at : x.time ≡ 0 → held_in L ≡ before L p ++ behind L p
-    free_at n = ap held_in unchanged ∙ free_set L p x at.0 n
+    free_at n = ap held_in unchanged ∙ free_set L p x within n
 
     -- its entry among the others by time
     pub list_at : 1 ≤ x.time → Falling (by_time (held_in L)) → by_time (held_in L) ≡ placed x (by_time (before L p ++ behind L p))
@@ -127,7 +102,7 @@ module _ {K : Type 0} where
     count_slot n f = sym (count_held_in x.time L) ∙ sym (count_by_time x.time (held_in L)) ∙ ap (λ es. count_above x.time (times_of es)) (list_at n f)
 
     -- how many entries are later than its
-    pub depth_at : 1 ≤ x.time → Falling (by_time (held_in L)) → count_above x.time (times_of L) ≡ index_where (λ y. leb y.time x.time) (by_time (before L p ++ behind L p))
+    pub depth_at : 1 ≤ x.time → Falling (by_time (held_in L)) → count_above x.time (times_of L) ≡ position_or_len (λ y. leb y.time x.time) (by_time (before L p ++ behind L p))
     depth_at n f =
         let M = by_time (before L p ++ behind L p) in
         count_slot n f ∙ count_own x M (falling_out x M (subst Falling (list_at n f) f)).1
@@ -148,44 +123,7 @@ module _ {K : Type 0} where
       (All-weaker (λ e. 1 ≤ e.time → count_above e.time (times_of L) + 1 ≡ j → ⊥) (λ e. 1 ≤ e.time → P e)
       (λ e q n m. q n (omega (arith, count_by_time e.time (held_in L), count_held_in e.time L))) L h)))
 
-  -- counting slot by slot
-  pub count_more : (t : ℕ) (L : List (Entry K)) (i : ℕ) (x : Entry K) → i < length L → x ≡ get_or L i x → count_above t (times_of (drop i L)) ≡ cond (ltb t x.time) 1 0 + count_above t (times_of (drop (i + 1) L))
-  count_more t L i x h e =
-      ap (λ es. count_above t (times_of es)) (drop_more L i x h) ∙ ap (λ y. cond (ltb t y.time) 1 0 + count_above t (times_of (drop (i + 1) L))) (sym e)
-
-  pub count_end : (t : ℕ) (L : List (Entry K)) (i : ℕ) → length L ≤ i → count_above t (times_of (drop i L)) ≡ 0
-  count_end t L i h = ap (λ es. count_above t (times_of es)) (drop_all i L h)
-
-  -- what holds of each slot so far
-  pub all_read_more : (P : Entry K → Type 0) (L : List (Entry K)) (i : ℕ) (x : Entry K) → i < length L → x ≡ get_or L i x → AllByRecursion P (take i L) → P x → AllByRecursion P (take (i + 1) L)
-  all_read_more P L i x h e a p = All-more P L i x h a (subst P e p)
-
-  -- the latest so far is a new one
-  pub latest_new : (L : List (Entry K)) (i b : ℕ) (x y : Entry K) → i < length L → b < length L → x ≡ get_or L i x → y ≡ get_or L b y → y.time < x.time → ((d : Entry K) → AllByRecursion (λ e. e.time ≤ (get_or L b d).time) (take i L)) → (d : Entry K) → AllByRecursion (λ e. e.time ≤ (get_or L i d).time) (take (i + 1) L)
-  latest_new L i b x y h k ex ey l a d =
-      let at_i : x.time ≡ (get_or L i d).time = ap (λ e. e.time) (get_or_read L i x h ex d) in
-      let at_b : y.time ≡ (get_or L b d).time = ap (λ e. e.time) (get_or_read L b y k ey d) in
-      let low : (get_or L b d).time ≤ (get_or L i d).time = omega arith in
-      all_read_more (λ e. e.time ≤ (get_or L i d).time) L i x h ex (All-weaker (λ e. e.time ≤ (get_or L b d).time) (λ e. e.time ≤ (get_or L i d).time) (λ e q. omega arith) (take i L) (a d)) (omega arith)
-
-  -- or stays
-  pub latest_old : (L : List (Entry K)) (i b : ℕ) (x y : Entry K) → i < length L → b < length L → x ≡ get_or L i x → y ≡ get_or L b y → x.time ≤ y.time → ((d : Entry K) → AllByRecursion (λ e. e.time ≤ (get_or L b d).time) (take i L)) → (d : Entry K) → AllByRecursion (λ e. e.time ≤ (get_or L b d).time) (take (i + 1) L)
-  latest_old L i b x y h k ex ey l a d =
-      let at_b : y.time ≡ (get_or L b d).time = ap (λ e. e.time) (get_or_read L b y k ey d) in
-      all_read_more (λ e. e.time ≤ (get_or L b d).time) L i x h ex (a d) (omega arith)
-
-  -- the slot that has the latest time of the first n of a slice is one of them
-  pub latest_within : {P : Type 0} (n : ℕ) (S L : List (Entry K)) (p : ℕ) → L ≡ take n S → 0 < n → 0 < length S → (0 < length L → (p < length L) × P) → p < min (length S) n
-  latest_within n S L p e k h r =
-      let long : length L ≡ min n (length S) = ap length e ∙ length-take n S in
-      let some : 0 < length L = omega arith in
-      omega (arith, (r some).0)
-
-  -- and none of them has a later one
-  pub latest_most : (n : ℕ) (S L : List (Entry K)) (p : ℕ) → L ≡ take n S → 0 < n → 0 < length S →
-      (0 < length L → (p < length L) × ((d : Entry K) → AllByRecursion (λ e. e.time ≤ (get_or L p d).time) L)) → (d : Entry K) → AllByRecursion (λ e. e.time ≤ (get_or S p d).time) (take n S)
-  latest_most n S L p e k h r d =
-      let within = latest_within n S L p e k h r in
-      let some : 0 < length L = omega (arith, ap length e, length-take n S) in
-      let low : p < n = omega arith in
-      subst (λ y. AllByRecursion (λ f. f.time ≤ y.time) (take n S)) (get_or-take n S p d low) (subst (λ M. AllByRecursion (λ f. f.time ≤ (get_or M p d).time) M) e ((r some).1 d))
+  -- what an entry by rank answers is what the list has there
+  pub ranked_is : (L : List (Entry K)) (j : ℕ) (r : Option (Entry K)) → RankedIn j L r → Falling (by_time (held_in L)) → r ≡ key_at (by_time (held_in L)) j
+  ranked_is L j (Some e) h f = entry_at_slot L h.index e h.slot j h.taken f h.rank
+  ranked_is L j None h f = sym (entry_nowhere L j f h)

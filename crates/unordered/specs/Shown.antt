@@ -1,5 +1,6 @@
 -- What an unordered store holds, and what its calls make of its slots. A time of 0 marks a free slot.
-use Rattle.std.specs.Prelude.{◌≡◌, ℕ, ◌+◌, ◌≤◌, Bool, true, false, List, [], ◌∷◌, ◌++◌, map, take, drop, Some, None, Ok, Err, filter, Option, Result, ◌≢◌, nat_lt, slice_set}
+use Rattle.std.specs.Prelude.{◌≡◌, ℕ, ◌+◌, ◌≤◌, Bool, true, false, List, [], ◌∷◌, ◌++◌, map, take, drop, position, ◌&&◌, nat_eq, Some, None, Ok, Err, filter, Option, Result, ◌≢◌, nat_lt, slice_set}
+use Rattle.std.specs.Option.{option_or}
 use Rattle.std.specs.List.{AllByRecursion, slice_get}
 use Rattle.refusals.specs.declared.Refusal.{Refusal}
 use Rattle.refusals.specs.declared.Refusal.TheVariants.{NoPlace}
@@ -10,13 +11,33 @@ use Rattle.recency.specs.Rules.{most_places, places_in, Kept, Touching, PuttingB
 use Rattle.recency.specs.ByTime.{by_time}
 use Rattle.unordered.specs.declared.store.Unordered.{Unordered}
 
--- the slots that are places: the first 4,096
-abbrev pub in_places : {K : Type 0} → List (Entry K) → List (Entry K)
+-- the slots that are places: the first 4,096 (`unfoldable`: a tactic that sees through it takes them one by one)
+unfoldable pub in_places : {K : Type 0} → List (Entry K) → List (Entry K)
 in_places slots = take most_places slots
 
 -- the entries held in slots: those with a time other than 0
 abbrev pub held_in : {K : Type 0} → List (Entry K) → List (Entry K)
 held_in slots = filter (λ e. nat_lt 0 e.time) slots
+
+-- a slot holds an entry with the key
+abbrev pub holds : {K : Type 0} → (K → K → Bool) → K → Entry K → Bool
+holds same k e = nat_lt 0 e.time && same k e.key
+
+-- a slot is free
+abbrev pub is_free : {K : Type 0} → Entry K → Bool
+is_free e = nat_eq e.time 0
+
+-- the place that a touch of k takes here: the first that holds the key, else the first free one
+abbrev pub place_for : {K : Type 0} → (K → K → Bool) → K → List (Entry K) → Option ℕ
+place_for same k slots = option_or (position (holds same k) (in_places slots)) (position is_free (in_places slots))
+
+-- the list in slots: the entries held in the places, by falling time
+abbrev pub list_in : {K : Type 0} → List (Entry K) → List (Entry K)
+list_in slots = by_time (held_in (in_places slots))
+
+-- the list in slots is as the rules keep it
+abbrev pub KeptIn : {K : Type 0} → (K → K → Bool) → List (Entry K) → Type 0
+KeptIn same slots = Kept same (places_in slots) (list_in slots)
 
 -- the number of places: the slice's length, at most 4,096
 abbrev pub unordered_places : {K : Type 0} → Unordered K → ℕ
@@ -24,21 +45,29 @@ unordered_places s = places_in s.slots.now
 
 -- the list: the entries held in the places, by falling time
 abbrev pub unordered_list : {K : Type 0} → Unordered K → List (Entry K)
-unordered_list s = by_time (held_in (in_places s.slots.now))
+unordered_list s = list_in s.slots.now
 
 -- an unordered store is sound: its list is as the rules keep it
 abbrev pub unordered_sound : {K : Type 0} → (K → K → Bool) → Unordered K → Type 0
-unordered_sound same s = Kept same (unordered_places s) (unordered_list s)
+unordered_sound same s = KeptIn same s.slots.now
+
+-- what every store's touch of k at time t owes, of slots before and after it
+abbrev pub SlotsRule : {K : Type 0} → (K → K → Bool) → K → ℕ → List (Entry K) → List (Entry K) → Result (Option (ℕ × ℕ)) Refusal → Type 0
+SlotsRule same k t slots slots' r =
+    Touching same k t (places_in slots) (places_in slots') (list_in slots) (list_in slots') (KeptIn same slots) (KeptIn same slots') r
+
+-- and what every store's put back of the time t owes
+abbrev pub SlotsBackRule : {K : Type 0} → (K → K → Bool) → ℕ → List (Entry K) → List (Entry K) → Type 0
+SlotsBackRule same t slots slots' =
+    PuttingBack same t (places_in slots) (places_in slots') (list_in slots) (list_in slots') (KeptIn same slots) (KeptIn same slots')
 
 -- what every store's touch of k at time t owes, of an unordered store before and after it
 abbrev pub UnorderedRule : {K : Type 0} → (K → K → Bool) → K → ℕ → Unordered K → Unordered K → Result (Option (ℕ × ℕ)) Refusal → Type 0
-UnorderedRule same k t s s' r =
-    Touching same k t (unordered_places s) (unordered_places s') (unordered_list s) (unordered_list s') (unordered_sound same s) (unordered_sound same s') r
+UnorderedRule same k t s s' r = SlotsRule same k t s.slots.now s'.slots.now r
 
 -- what every store's put back of the time t owes
 abbrev pub UnorderedBackRule : {K : Type 0} → (K → K → Bool) → ℕ → Unordered K → Unordered K → Type 0
-UnorderedBackRule same t s s' =
-    PuttingBack same t (unordered_places s) (unordered_places s') (unordered_list s) (unordered_list s') (unordered_sound same s) (unordered_sound same s')
+UnorderedBackRule same t s s' = SlotsBackRule same t s.slots.now s'.slots.now
 
 -- a slice with every place freed: its key stays, its time is 0; the slots past the places as they were
 abbrev pub freed : {K : Type 0} → List (Entry K) → List (Entry K)

@@ -6,5 +6,6 @@ mod scans;
 mod store;
 #[cfg(test)]
 mod tests;
+mod writes;
 
 pub use store::Unordered;

@@ -1,4 +1,5 @@
-// Both ends of every bound, and what a store leaves in the caller's slice.
+// Both ends of every bound, and what a store leaves in the caller's slice. (The tests of the crate `ordered` are alike, on the
+// other store: the two crates share nothing that is only for tests.)
 ghost use Rattle.std.specs.Prelude.{◌≡◌};
 ghost use Rattle.unordered.specs.Shown.{freed};
 
@@ -10,7 +11,7 @@ use std::test::Fail;
 
 fn line(address: u64, time: u16) -> Entry<Line> {
     Entry {
-        key: Line { address },
+        key: Line::at(address),
         time,
     }
 }
@@ -38,8 +39,8 @@ fn slices_of_every_length(rt: HostRuntime) {
 fn entries_at_both_ends(rt: HostRuntime) -> Result<(), Fail> {
     let mut slots = [line(0, 9); 3];
     let mut store = Unordered::new(&mut slots);
-    let _ = store.touch(Line { address: 64 }, 1);
-    let _ = store.touch(Line { address: 128 }, 2);
+    let _ = store.touch(Line::at(64), 1);
+    let _ = store.touch(Line::at(128), 2);
     assert!(rt; store.entry(0).is_none());
     assert_eq!(rt; store.entry(1).ok_or("none")?.time, 2);
     assert_eq!(rt; store.entry(2).ok_or("none")?.key.address, 64);

@@ -1,4 +1,4 @@
-use Rattle.std.proofs.Common.{◌≡◌, ℕ, ◌+◌, ◌-◌, ◌≤◌, true, false, cond, take, sym, ap, ◌∙◌, arith}
+use Rattle.std.proofs.Common.{◌≡◌, true, false, take, sym, ap, ◌∙◌, arith}
 use Rattle.std.proofs.lemmas.List.{take_all}
 use Rattle.locality.specs.Log.{held, distinct}
 use Rattle.locality.proofs.Sameness.{distinct-reverse}
@@ -9,23 +9,15 @@ use Rattle.counting.proofs.windows.distinct_keys.Goals.{then-not-is_held, else-n
 pub loop-i-preserved : goal.loop-i-preserved
 loop-i-preserved g c =
     let same = g.K.Key.same in
-    let xs = c.args.keys.now in
-    let i = c.loop-i.i in
     let x = c.index-keys-i.result in
-    let d = distinct_more g.met.K.Key.lawful xs i x c.loop-i-test.true c.index-keys-i.is in
-    let z : i - 0 ≡ i = omega arith in
-    let h : c.is_held.result ≡ held same x (take i xs) = c.is_held.ensures ∙ ap (λ j. held same x (take j xs)) z in
-    let count : c.if-not-is_held.count ≡ cond (held same x (take i xs)) 0 1 + c.loop-i.count
-    = elim c.if-not-is_held.branch [
-      | then-not-is_held w ↦ let y : held same x (take i xs) ≡ false = sym h ∙ w.if-not-is_held.true in rw y (omega (arith, w.count-is))
-      | else-not-is_held w ↦ let y : held same x (take i xs) ≡ true = sym h ∙ w.if-not-is_held.false in rw y (omega (arith, w.count-is))
-    ] in
-    let one : cond {A = ℕ} (held same x (take i xs)) 0 1 ≤ 1 = grind arith in
-    (omega (arith, c.loop-i.invariant.0, count, one), omega (arith, c.loop-i.invariant.1, count, d))
+    let before = take c.loop-i.i c.args.keys.now in
+    let more = distinct_more g.met.K.Key.lawful c.args.keys.now c.loop-i.i x c.loop-i-test.true c.index-keys-i.is in
+    elim c.if-not-is_held.branch [
+      | then-not-is_held w ↦ let new : held same x before ≡ false = sym c.is_held.ensures ∙ w.if-not-is_held.true in grind (arith, w.count-is, more, c.loop-i.invariant)
+      | else-not-is_held w ↦ let known : held same x before ≡ true = sym c.is_held.ensures ∙ w.if-not-is_held.false in grind (arith, w.count-is, more, c.loop-i.invariant)
+    ]
 
-pub returns : goal.returns
-returns g c =
-    let same = g.K.Key.same in
+pub returns-clause-log : goal.returns-clause-log
+returns-clause-log g c =
     let xs = c.args.keys.now in
-    let v : c.loop-i.count ≡ distinct same xs = c.loop-i.invariant.1 ∙ ap (distinct same) (take_all c.loop-i.i xs c.loop-i-test.false) in
-    record { slice = v; log = v ∙ sym (distinct-reverse g.met.K.Key.lawful xs); bound = omega (arith, c.loop-i.invariant.0) }
+    c.loop-i.invariant.1 ∙ ap (distinct g.K.Key.same) (take_all c.loop-i.i xs c.loop-i-test.false) ∙ sym (distinct-reverse g.met.K.Key.lawful xs)

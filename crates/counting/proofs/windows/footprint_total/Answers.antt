@@ -1,41 +1,34 @@
-use Rattle.std.proofs.Common.{◌≡◌, ℕ, suc, ◌+◌, ◌-◌, length, take, drop, sym, ap, ◌∙◌, ap₂, arith}
-use Rattle.locality.specs.Numbers.{sum_over}
-use Rattle.locality.specs.Log.{distinct}
-use Rattle.locality.specs.ByPosition.{positions, window}
-use Rattle.counting.proofs.Slices.{sum_more, total-slice}
+use Rattle.std.proofs.Common.{◌≡◌, ◌≤◌, length, take, sym, ap, ◌∙◌, reverse, arith, length-drop}
+use Rattle.locality.specs.Log.{distinct, total}
+use Rattle.counting.proofs.Slices.{total_zero, total_short, total_next}
 use Rattle.counting.proofs.windows.footprint_total.Goals as goal
 
-pub returns-then-window-keys : goal.returns-then-window-keys
-returns-then-window-keys g c =
-    let same = g.K.Key.same in
-    let xs = c.args.keys.now in
-    let w = c.args.window in
-    let z : suc (length xs) - w ≡ 0 = omega arith in
-    sym (total-slice g.met.K.Key.lawful w xs ∙ ap (λ m. sum_over (λ s. distinct same (window w s xs)) (positions m)) z)
+pub returns-then-window-eq0 : goal.returns-then-window-eq0
+returns-then-window-eq0 g c = rw c.if-window-eq0.true (sym (total_zero g.K.Key.same (reverse c.args.keys.now)))
 
-pub loop-start-preserved : goal.loop-start-preserved
-loop-start-preserved g c =
+pub loop-keys-preserved : goal.loop-keys-preserved
+loop-keys-preserved g c =
     let same = g.K.Key.same in
-    let xs = c.args.keys.now in
     let w = c.args.window in
-    let s = c.loop-start.start in
-    let f : ℕ → ℕ = λ s. distinct same (window w s xs) in
-    let many : s + w - s ≡ w = omega arith in
-    let from : s ≡ s + 1 - 1 = omega arith in
-    let here : c.distinct_keys.result ≡ f (s + 1) = c.distinct_keys.ensures.slice ∙ ap₂ (λ n j. distinct same (take n (drop j xs))) many from in
-    (omega (arith, c.loop-start.invariant.0, c.distinct_keys.type_inv), ap₂ ◌+◌ c.loop-start.invariant.1 here ∙ sym (sum_more f s))
+    let inv = c.loop-keys.invariant in
+    let R = c.loop-keys.keys-iterator.rest.now in
+    let step = c.in-Some.ensures.steps in
+    let sized = inv.sized ∙ ap (λ i. i.size) c.into_iter-keys-iterator.ensures.into_iter_gives ∙ c.windows-keys-items.ensures.size in
+    let here : c.distinct_keys.result ≡ distinct same (take w R) = c.distinct_keys.ensures.slice ∙ ap (distinct same) (step.1.1 ∙ ap (λ n. take n R) sized) in
+    let low : w ≤ length R = omega (arith, step.1.0, sized) in
+    let next = total_next g.met.K.Key.lawful w R (omega arith) low in
+    let after = ap (λ xs. total same w (reverse xs)) step.1.2 in
+    record {
+      sized = step.0 ∙ inv.sized;
+      bound = omega (arith, inv.bound, c.distinct_keys.type_inv, ap length step.1.2, length-drop 1 R, low);
+      left = omega (arith, here, next, after, inv.left);
+    }
 
 pub returns : goal.returns
 returns g c =
-    let same = g.K.Key.same in
-    let xs = c.args.keys.now in
-    let w = c.args.window in
-    let n = length xs in
-    let f : ℕ → ℕ = λ s. distinct same (window w s xs) in
-    let end : c.loop-start.start ≡ n - w = omega arith in
-    let many : n - (n - w) ≡ w = omega arith in
-    let from : n - w ≡ n - w + 1 - 1 = omega arith in
-    let all : n - w + 1 ≡ suc n - w = omega arith in
-    let here : c.distinct_keys-2.result ≡ f (n - w + 1) = c.distinct_keys-2.ensures.slice ∙ ap₂ (λ m j. distinct same (take m (drop j xs))) many from in
-    let sum : c.loop-start.sum ≡ sum_over f (positions (n - w)) = c.loop-start.invariant.1 ∙ ap (λ m. sum_over f (positions m)) end in
-    ap₂ ◌+◌ sum here ∙ sym (sum_more f (n - w)) ∙ ap (λ m. sum_over f (positions m)) all ∙ sym (total-slice g.met.K.Key.lawful w xs)
+    let inv = c.loop-keys.invariant in
+    let start = c.into_iter-keys-iterator.ensures.into_iter_gives in
+    let sized = inv.sized ∙ ap (λ i. i.size) start ∙ c.windows-keys-items.ensures.size in
+    let whole = ap (λ i. total g.K.Key.same c.args.window (reverse i.rest.now)) start ∙ ap (λ xs. total g.K.Key.same c.args.window (reverse xs)) c.windows-keys-items.ensures.rest in
+    let none = total_short g.met.K.Key.lawful c.args.window c.loop-keys.keys-iterator.rest.now (omega (arith, c.in-None.ensures.steps.1.0, sized)) in
+    omega (arith, none, inv.left, whole)

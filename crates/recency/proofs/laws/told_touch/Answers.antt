@@ -4,12 +4,7 @@ use Rattle.locality.specs.Recency.{keys}
 use Rattle.recency.proofs.Keeps.{touch-held}
 use Rattle.recency.proofs.laws.told_touch.Goals as goal
 
-pub returns : goal.returns
-returns g c =
-    let rule = c.touch.ensures.rule in
+pub returns-clause-keeps : goal.returns-clause-keeps
+returns-clause-keeps g c =
     let before = c.args.store.now in
-    record {
-      rule = rule;
-      refusal = c.touch.ensures.refusal;
-      keeps = λ s l x. ap (λ es. held g.S.Key.Key.same x (keys es)) (rule.list s l) ∙ touch-held g.met.S.Key.Key.lawful (g.S.RecencyStore.room before) x c.args.key c.args.time (g.S.RecencyStore.entries before);
-    }
+    λ s l x. ap (λ es. held g.S.Key.Key.same x (keys es)) (c.touch.ensures.rule.list s l) ∙ touch-held g.met.S.Key.Key.lawful (g.S.RecencyStore.room before) x c.args.key c.args.time (g.S.RecencyStore.entries before)

@@ -1,0 +1,78 @@
+-- The places of slots: what is read there, what a search of them finds, and what becomes of them. Assumes nothing.
+use Rattle.std.proofs.Common.{◌≡◌, ℕ, zero, suc, ◌<◌, min, Bool, true, false, cond, ltb, List, [], ◌∷◌, ◌++◌, map, length, get_or, take, drop, set, Some, None, sym, refl, ap, ◌∙◌, ap₂, arith, ⊎_elim}
+use Rattle.std.specs.List.{All, AllByRecursion, position_or_len, position, slice_get}
+use Rattle.std.proofs.ByRecursion.{All-from_get_or}
+use Rattle.std.proofs.lemmas.Bool.{cases_Bool, ltb-false, cond-true}
+use Rattle.std.proofs.lemmas.List.{length-take, get_or-take}
+use Rattle.std.proofs.Math.Seq.{take-set-lt}
+use Rattle.std.proofs.lemmas.Option.{slice_get-get_or}
+use Rattle.std.proofs.lemmas.List.Quantifiers.{position-Some}
+use Rattle.locality.proofs.Slices.{front_cut, rest_cut}
+use Rattle.locality.proofs.Finds.{none_passes}
+use Rattle.locality.specs.declared.entry.Entry.{Entry}
+use Rattle.std.specs.List.{count_by}
+use Rattle.std.proofs.lemmas.List.Recursion.{is_sum_by}
+use Rattle.locality.specs.Numbers.{count_above}
+use Rattle.locality.specs.Recency.{at_time, times_of}
+use Rattle.unordered.specs.Shown.{in_places, held_in, freed}
+
+-- what holds at each index holds of each element
+pub each : {X : Type 0} (P : X → Type 0) (xs : List X) → All P xs → AllByRecursion P xs
+each P [] h = tt
+each P (x ∷ xs) h = All-from_get_or P (x ∷ xs) x (λ i l. h i x l)
+
+module _ {K : Type 0} where
+  -- there are at most 4,096 places
+  pub length_places : (S : List (Entry K)) → length (in_places S) ≡ min (length S) 4096
+  unfolding in_places
+  length_places S = omega (arith, length-take 4096 S)
+
+  -- a place is read as the slot that it is
+  pub read_place : (S : List (Entry K)) (p : ℕ) (d : Entry K) → p < length (in_places S) → get_or (in_places S) p d ≡ get_or S p d
+  unfolding in_places
+  read_place S p d h = get_or-take 4096 S p d (omega (arith, length-take 4096 S))
+
+  -- a write in the places
+  pub set_place : (S : List (Entry K)) (p : ℕ) (y : Entry K) → p < length (in_places S) → in_places (set S p y) ≡ set (in_places S) p y
+  unfolding in_places
+  set_place S p y h = take-set-lt 4096 S p y (omega (arith, length-take 4096 S))
+
+  -- the front of a slice, freed
+  freed_front : (n : ℕ) (S : List (Entry K)) → held_in (take n (map (λ e. at_time e.key 0) (take n S) ++ drop n S)) ≡ []
+  freed_front zero S = refl
+  freed_front (suc n) [] = refl
+  freed_front (suc n) (e ∷ es) = freed_front n es
+
+  -- the places, freed
+  pub freed_places : (S : List (Entry K)) → held_in (in_places (freed S)) ≡ []
+  unfolding in_places
+  freed_places S = freed_front 4096 S
+
+  -- the slots, once the first n have been freed, and there are n places
+  pub all_freed : (S S' : List (Entry K)) (n : ℕ) → n ≡ min (length S) 4096 → S' ≡ map (λ e. at_time e.key 0) (take n S) ++ drop n S → S' ≡ freed S
+  unfolding in_places
+  all_freed S S' n e s = s ∙ ap₂ (λ L R. map (λ e. at_time e.key 0) L ++ R) (front_cut 4096 S n e) (rest_cut 4096 S n e)
+
+  -- a place that a search answers: its entry passes
+  pub place_is : (passes : Entry K → Bool) (S : List (Entry K)) (i : ℕ) → position passes (in_places S) ≡ Some i → (d : Entry K) → (i < length (in_places S)) × (i < length S) × (passes (get_or S i d) ≡ true)
+  place_is passes S i e d =
+      let h = position-Some passes (in_places S) i d e in
+      (h.0, omega (arith, h.0, length_places S), ap passes (sym (read_place S i d h.0)) ∙ h.1)
+
+  -- where it answers none, none passes
+  pub place_none : (passes : Entry K → Bool) (S : List (Entry K)) → position passes (in_places S) ≡ None → AllByRecursion (λ e. passes e ≡ false) (in_places S)
+  place_none passes S e =
+      let L = in_places S in
+      let p = position_or_len passes L in
+      ⊎_elim
+      (λ (t : ltb p (length L) ≡ true). let f : Some p ≡ None = sym (cond-true (ltb p (length L)) (Some p) None t) ∙ e in absurd (cc))
+      (λ (t : ltb p (length L) ≡ false). none_passes passes L (ltb-false p (length L) t))
+      (cases_Bool (ltb p (length L)))
+
+  -- the entry that stands in a place
+  pub place_read : (S : List (Entry K)) (i : ℕ) (d : Entry K) → i < length (in_places S) → slice_get (in_places S) i ≡ Some (get_or S i d)
+  place_read S i d h = slice_get-get_or (in_places S) i d h ∙ ap Some (read_place S i d h)
+
+-- how many times are later, counted in entries
+pub later_counted : {K : Type 0} (t : ℕ) (es : List (Entry K)) → count_above t (times_of es) ≡ count_by (λ e. ltb t e.time) es
+later_counted t es = is_sum_by (λ L. count_above t (times_of L)) (λ e. cond (ltb t e.time) 1 0) refl (λ e L. refl) es

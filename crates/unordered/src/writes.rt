@@ -1,0 +1,74 @@
+// What is written in a caller's slots. An entry is rewritten whole, and a call writes one at most, but to free every place.
+ghost use Rattle.std.specs.Prelude.{◌≡◌, ◌+◌, ◌<◌, ◌≤◌, [], length, None, Some, slice_set};
+ghost use Rattle.std.specs.List.{slice_get};
+ghost use Rattle.locality.specs.declared.entry.Entry.{Entry};
+ghost use Rattle.locality.specs.Numbers.{count_above};
+ghost use Rattle.locality.specs.Recency.{at_time, times_of};
+ghost use Rattle.recency.specs.Rules.{places_in};
+ghost use Rattle.unordered.specs.Shown.{in_places, list_in, KeptIn, freed, SlotsRule, SlotsBackRule, TouchedSlots, PutBackSlots};
+
+use crate::scans::{later_than, latest, place_for, places};
+use keys::Key;
+use locality::Entry;
+use refusals::Refusal;
+
+// Frees every place; the slots past the places are not written.
+pub(crate) fn free_all<K: Key>(slots: &mut [Entry<K>])
+    ensures slots { slots.new ≡ freed slots.old }
+    ensures places { places_in slots.new ≡ places_in slots.old }
+    ensures list { list_in slots.new ≡ [] }
+    ensures sound { KeptIn K.same slots.new }
+{
+    // By index: `iter_mut` tells nothing of what the slice then holds.
+    for i in 0..places(slots) {
+        slots[i] = Entry {
+            time: 0,
+            ..slots[i]
+        };
+    }
+}
+
+// A touch of a place: its entry takes the time, or, if it is free, the place takes the key and the time. Answers the depth
+// and the former time of an entry, or none.
+fn touch_place<K: Key>(slots: &mut [Entry<K>], at: usize, key: K, time: u16) -> Option<(u32, u16)>
+    requires { at < length slots.old }
+    ensures first { (x : Entry K) → slice_get slots.old at ≡ Some x → x.time ≡ 0 → (result ≡ None) × (slots.new ≡ slice_set slots.old at (at_time key time)) }
+    ensures again { (x : Entry K) → slice_get slots.old at ≡ Some x → 1 ≤ x.time → (result ≡ Some (count_above x.time (times_of (in_places slots.old)) + 1, x.time)) × (slots.new ≡ slice_set slots.old at (at_time x.key time)) }
+{
+    let former = slots[at].time;
+    if former == 0 {
+        slots[at] = Entry { key, time };
+        return None;
+    }
+    let depth = later_than(slots, former) + 1;
+    slots[at] = Entry { time, ..slots[at] };
+    Some((depth, former))
+}
+
+// A touch: of the place that holds the key, or else of a free one.
+pub(crate) fn touch_slot<K: Key>(
+    slots: &mut [Entry<K>],
+    key: K,
+    time: u16,
+) -> Result<Option<(u32, u16)>, Refusal>
+    ensures rule { SlotsRule K.same key time slots.old slots.new result }
+    ensures slots { TouchedSlots K.same key time slots.old slots.new result }
+{
+    let Some(at) = place_for(slots, &key) else {
+        return Err(Refusal::NoPlace);
+    };
+    Ok(touch_place(slots, at, key, time))
+}
+
+// A put back: a place with the latest time takes the time given, by which 0 frees it.
+pub(crate) fn take_back<K: Key>(slots: &mut [Entry<K>], former: u16)
+    ensures rule { SlotsBackRule K.same former slots.old slots.new }
+    ensures slots { PutBackSlots former slots.old slots.new }
+{
+    if let Some(at) = latest(slots) {
+        slots[at] = Entry {
+            time: former,
+            ..slots[at]
+        };
+    }
+}
