@@ -67,8 +67,7 @@ impl Curve {
     {
         match self {
             Curve::Misses => keys,
-            Curve::Totals | Curve::Windows | Curve::Gaps => accesses,
-            Curve::Intervals | Curve::Distances => accesses,
+            _ => accesses,
         }
     }
 

@@ -1,5 +1,5 @@
 -- The definitions on a slice of keys, the oldest access first. Assumes nothing.
-use Rattle.std.proofs.Common.{◌≡◌, ℕ, zero, suc, ◌+◌, ◌-◌, ◌<◌, ◌≤◌, Bool, true, false, cond, eqb, leb, List, [], ◌∷◌, ◌++◌, map, reverse, length, get_or, take, drop, Some, None, Option, filter, sym, refl, ap, ◌∙◌, ap₂, ⊎_elim, add-one, arith}
+use Rattle.std.proofs.Common.{◌≡◌, ℕ, zero, suc, ◌+◌, ◌-◌, ◌<◌, ◌≤◌, Bool, true, false, cond, eqb, List, [], ◌∷◌, ◌++◌, map, reverse, length, get_or, take, drop, Some, None, Option, filter, sym, refl, ap, ◌∙◌, ap₂, ⊎_elim, add-one, arith}
 use mathlib.Core.Bool.{false≢true}
 use Rattle.std.proofs.lemmas.List.{reverse-reverse, length-reverse, length-take, length-take-le, map-id, take_more, get_or-take, get_or_default}
 use Rattle.std.proofs.lemmas.Bool.{cases_Bool, cases_lt}
@@ -35,11 +35,6 @@ sum_more f n =
 shifted : (f g : ℕ → ℕ) → ((s : ℕ) → 1 ≤ s → f (s + 1) ≡ g s) → (a n : ℕ) → 1 ≤ a → sum_over f (range_with_len (a + 1) n) ≡ sum_over g (range_with_len a n)
 shifted f g h a zero l = refl
 shifted f g h a (suc n) l = ap₂ ◌+◌ (h a l) (shifted f g h (a + 1) n (omega arith))
-
--- no window of no access has a key
-pub total_zero : {K : Type 0} (same : K → K → Bool) (log : List K) → total same 0 log ≡ 0
-total_zero same [] = refl
-total_zero same (k ∷ past) = let y : leb 0 (suc (length past)) ≡ true = grind arith in let r = total_zero same past in rw y (omega arith)
 
 -- the greatest position that passes, by what is known of each
 pub greatest_none : (f : ℕ → Bool) (n : ℕ) → ((j : ℕ) → 1 ≤ j → j ≤ n → f j ≡ false) → greatest f n ≡ 0

@@ -1,3 +1,4 @@
 pub mod Finds
 pub mod Shares
 pub mod Memory
+pub mod InCache

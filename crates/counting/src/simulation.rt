@@ -1,9 +1,6 @@
 // The misses of an LRU cache, by simulating it.
 ghost use Rattle.std.specs.Prelude.{◌≡◌, ◌+◌, ◌<◌, ◌≤◌, ◌∷◌, ◌++◌, reverse, length, take, drop, slice_index_or};
-ghost use Rattle.std.specs.List.{position};
-ghost use Rattle.locality.specs.Log.{held};
-ghost use Rattle.locality.specs.Cache.{accessed, misses};
-ghost use Rattle.locality.specs.Slices.{in_front};
+ghost use Rattle.locality.specs.Cache.{misses};
 ghost use Rattle.counting.specs.Memory.{memory_after};
 
 use crate::finds::find;
@@ -35,11 +32,18 @@ struct Cache<'a, K> {
 }
 
 impl<'a, K: Key> Cache<'a, K> {
+    ghost use Rattle.std.specs.Prelude.{◌≡◌, ◌∷◌, length, take};
+    ghost use Rattle.std.specs.List.{position};
+    ghost use Rattle.locality.specs.Log.{held};
+    ghost use Rattle.locality.specs.Cache.{accessed};
+    ghost use Rattle.locality.specs.Slices.{in_front};
+    ghost use Rattle.counting.specs.InCache.{in_cache};
+
     // One access: whether it hits.
     fn access(&mut self, key: &K) -> bool
-        ensures hit { result ≡ held K.Key.same key.now (take self.old.count self.old.places.now) }
-        ensures keys { take self.new.count self.new.places.now ≡ accessed K.Key.same (length self.old.places.now) key.now (take self.old.count self.old.places.now) }
-        ensures places { self.new.places.now ≡ in_front (take self.new.count self.new.places.now) self.old.places.now }
+        ensures hit { result ≡ held K.Key.same key.now (in_cache self.old) }
+        ensures keys { in_cache self.new ≡ accessed K.Key.same (length self.old.places.now) key.now (in_cache self.old) }
+        ensures places { self.new.places.now ≡ in_front (in_cache self.new) self.old.places.now }
         ensures lent { self.new.places.ghost_name ≡ self.old.places.ghost_name }
     {
         match self.find(key) {
@@ -56,15 +60,15 @@ impl<'a, K: Key> Cache<'a, K> {
 
     // The place of the same key, counted from 0.
     fn find(&self, key: &K) -> Option<usize>
-        ensures { result ≡ position (λ x. K.Key.same key.now x) (take self.now.count self.now.places.now) }
+        ensures { result ≡ position (λ x. K.Key.same key.now x) (in_cache self.now) }
     {
         find(&self.places[..self.count], key)
     }
 
     // A miss: the key goes to the front, and the last key falls out where every place is taken.
     fn admit(&mut self, key: &K)
-        ensures keys { take self.new.count self.new.places.now ≡ take (length self.old.places.now) (key.now ∷ take self.old.count self.old.places.now) }
-        ensures places { self.new.places.now ≡ in_front (take self.new.count self.new.places.now) self.old.places.now }
+        ensures keys { in_cache self.new ≡ take (length self.old.places.now) (key.now ∷ in_cache self.old) }
+        ensures places { self.new.places.now ≡ in_front (in_cache self.new) self.old.places.now }
         ensures lent { self.new.places.ghost_name ≡ self.old.places.ghost_name }
     {
         let Some(end) = self.places.len().checked_sub(1) else {

@@ -5,15 +5,6 @@ use Rattle.std.specs.List.{AllByRecursion, position_or_len, position, list_any}
 use Rattle.locality.specs.Recency.{first_where, without}
 
 module _ {X : Type 0} (passes : X → Bool) where
-  -- the element that is found passes
-  pub at_passes : (xs : List X) (d : X) → position_or_len passes xs < length xs → passes (get_or xs (position_or_len passes xs) d) ≡ true
-  at_passes [] d h = absurd (omega arith)
-  at_passes (x ∷ xs) d h =
-      ⊎_elim
-      (λ (t : passes x ≡ true). rw t t)
-      (λ (t : passes x ≡ false). let h' : 1 + position_or_len passes xs < suc (length xs) = rw t at h in let e : 1 + position_or_len passes xs ≡ suc (position_or_len passes xs) = omega arith in rw (t, e) (at_passes xs d (omega arith)))
-      (cases_Bool (passes x))
-
   -- where none is found, none passes
   pub none_passes : (xs : List X) → length xs ≤ position_or_len passes xs → AllByRecursion (λ x. passes x ≡ false) xs
   none_passes [] h = tt

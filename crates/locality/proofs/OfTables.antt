@@ -12,6 +12,11 @@ use Rattle.locality.specs.Log.{distinct, total, gap_count, depth_count}
 use Rattle.locality.specs.Cache.{misses}
 use Rattle.locality.specs.Tables.{is_table, last_entry, difference, beyond, total_of_table, misses_of_table, TableOf, Tallies}
 use Rattle.locality.specs.Statements.{gap_sum, SameTotals, SameGaps, TotalFromTable, MissesFromTable}
+use Rattle.std.proofs.Common.{Decides, eqb}
+use Rattle.std.specs.Cmp.Lexicographic.{pointwise}
+use Rattle.std.proofs.lemmas.Slice.Eq.{slice_eq-Decides}
+use Rattle.std.proofs.lemmas.Bool.Decides.{Decides-eqb}
+use Rattle.locality.specs.Statements.{TablesTellTotals}
 
 -- what a checked subtraction answers
 pub checked_difference : (r : Option ℕ) (a b : ℕ) → SomeIff r (b ≤ a) (a - b) → r ≡ difference a b
@@ -61,8 +66,8 @@ module _ {K : Type 0} {same : K → K → Bool} (laws : Lawful same) where
   pub total-told : (table : List ℕ) (m w : ℕ) (r : Option ℕ) → r ≡ total_of_table w m table → TotalFromTable same table m w r
   total-told table m w r a = record { formula = footprints laws; answers = a; counted = λ log t l. a ∙ total_of w m log table t l }
 
-  pub misses-told : (table : List ℕ) (m c : ℕ) (r : Option ℕ) → r ≡ misses_of_table c m table → MissesFromTable same table m c r
-  misses-told table m c r a = record { formula = missed laws; answers = a; simulated = λ log t. a ∙ misses_of c m log table t }
+  pub misses_told : (table : List ℕ) (m c : ℕ) (r : Option ℕ) → r ≡ misses_of_table c m table → MissesFromTable same table m c r
+  misses_told table m c r a = record { formula = missed laws; answers = a; simulated = λ log t. a ∙ misses_of c m log table t }
 
 module _ {K L : Type 0} {same : K → K → Bool} {like : L → L → Bool} (laws : Lawful same) (laws' : Lawful like) where
   -- equal tables, equal totals
@@ -78,3 +83,13 @@ module _ {K L : Type 0} {same : K → K → Bool} {like : L → L → Bool} (law
         ext_get_or 0 one other (omega (arith, s.long, t.long, h.0))
         (λ i l. let m : i ≤ length p = omega (arith, s.long) in s.counts i m ∙ gaps i m ∙ sym (t.counts i (omega (arith, h.0)))),
   )
+
+  -- what comparing two tables tells
+  pub equal_tables_tell : (one other : List ℕ) (r : Bool) → r ≡ pointwise eqb one other → TablesTellTotals same like one other r
+  equal_tables_tell one other r e =
+      let d : Decides r (one ≡ other) = slice_eq-Decides Decides-eqb one other r e in
+      record {
+        theorem = tell laws laws';
+        answers = (d.0, d.1);
+        told = λ p q s t. let h = tables_tell p q one other s t in (λ y. h.0 (d.0 y), λ m. d.1 (h.1 m));
+      }

@@ -2,6 +2,8 @@
 use Rattle.std.proofs.Common.{◌≡◌, ◌+◌, Bool, true, false, cond, ◌||◌, List, [], ◌∷◌, ◌++◌, reverse, sym, refl, ap, ◌∙◌, ap₂, ⊎_elim, arith}
 use mathlib.Core.Bool.{false≢true}
 use Rattle.std.proofs.lemmas.List.{reverse-append}
+use Rattle.std.proofs.lemmas.List.Folds.{list_any-append}
+use Rattle.std.proofs.lemmas.List.Sorted.{IsPermutation-reverse, list_any-IsPermutation}
 use Rattle.std.proofs.lemmas.Bool.{cases_Bool}
 use Rattle.std.specs.List.{AllByRecursion}
 use Rattle.keys.specs.Sameness.{Lawful}
@@ -39,16 +41,8 @@ module _ {K : Type 0} {same : K → K → Bool} (laws : Lawful same) where
   held_same a b [] e = refl
   held_same a b (x ∷ xs) e = ap₂ ◌||◌ (left a b x e) (held_same a b xs e)
 
-  pub held-append : (k : K) (xs ys : List K) → held same k (xs ++ ys) ≡ (held same k xs || held same k ys)
-  held-append k [] ys = refl
-  held-append k (x ∷ xs) ys = let r = held-append k xs ys in grind arith
-
   pub held-reverse : (k : K) (xs : List K) → held same k (reverse xs) ≡ held same k xs
-  held-reverse k [] = refl
-  held-reverse k (x ∷ xs) =
-      let r = held-reverse k xs in
-      let a = held-append k (reverse xs) (x ∷ []) in
-      ap (held same k) (reverse-append (x ∷ []) xs) ∙ grind arith
+  held-reverse k xs = sym (list_any-IsPermutation (same k) xs (reverse xs) (IsPermutation-reverse xs))
 
   pub stored_same : (k : K) (xs : List K) → same k (stored same k xs) ≡ true
   stored_same k [] = laws.reflexive k
@@ -93,7 +87,7 @@ module _ {K : Type 0} {same : K → K → Bool} (laws : Lawful same) where
   distinct_push k [] = refl
   distinct_push k (x ∷ xs) =
       let r = distinct_push k xs in
-      let a = held-append x xs (k ∷ []) in
+      let a = list_any-append (same x) xs (k ∷ []) in
       let f = flip k x in
       let l : same x k ≡ true → held same x xs ≡ held same k xs = held_same x k xs in
       grind arith

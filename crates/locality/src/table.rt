@@ -30,7 +30,7 @@ impl<'a> Table<'a> {
         Table::of(self.entries.get(entry as usize..)?)
     }
 
-    // The sum of i × entry i over all entries.
+    // The sum of i × entry i over all entries. (As a chain with `sum`, its bound and its value stay open.)
     pub(crate) fn weighed(&self) -> u64
         ensures { result ≡ beyond 0 self.now.entries.now }
     {

@@ -5,7 +5,7 @@ ghost use Rattle.keys.specs.Blocks.{one_line, one_page};
 ghost use Rattle.locality.specs.Statements.{TotalFromTable, MissesFromTable, TablesTellTotals, NextFromRecency, RecencyList, PutBackUndoes, DepthFromTimes, WholeBurstFills, EntryZeroIsEmpty, TextbookAgrees};
 ghost use Rattle.locality.specs.Worked.{WorkedBursts};
 
-use crate::tables::{same_tables, table_misses, table_total};
+use crate::tables::{table_misses, table_total};
 use keys::{Key, Line, Page};
 
 // The footprint total of a window length, from a gap table and the number of different keys, visiting no window.
@@ -19,17 +19,19 @@ pub fn total_from_gaps<K: Key>(gaps: &[u32], keys: u32, window: u32) -> Option<u
 
 // The misses of an LRU cache, from a table of depth counts and the number of different keys.
 // None where the table has no entry or more than 4,097.
+#[tactic(auto, using(crate::proofs::OfTables::misses_told))]
 pub fn misses_from_depths<K: Key>(depths: &[u32], keys: u32, size: u32) -> Option<u64>
     ensures { MissesFromTable K.same depths.now keys size result }
 {
-    table_misses::<K>(depths, keys, size)
+    table_misses(depths, keys, size)
 }
 
 // Whether two bursts, of whatever kinds, have one length and equal totals at every window length, from their gap tables.
+#[tactic(auto, using(crate::proofs::OfTables::equal_tables_tell))]
 pub fn gaps_tell_totals<K: Key, L: Key>(one: &[u32], other: &[u32]) -> bool
     ensures { TablesTellTotals K.Key.same L.Key.same one.now other.now result }
 {
-    same_tables::<K, L>(one, other)
+    one == other
 }
 
 // Interval and distance of the next access can be read off the recency list.
@@ -48,11 +50,13 @@ pub fn put_back_undoes_touch<K: Key>()
 {}
 
 // The depth of a key is one more than the number of later times.
+#[tactic(auto, using(crate::proofs::Recency::depths_later))]
 pub fn depth_from_later_times<K: Key>()
     ensures { DepthFromTimes K.same }
 {}
 
 // Every size up to the number of keys has a window length that fills it.
+#[tactic(auto, using(crate::proofs::Curves::whole_fills))]
 pub fn whole_burst_fills<K: Key>()
     ensures { WholeBurstFills K.same }
 {}
@@ -63,6 +67,7 @@ pub fn entry_zero_is_empty<K: Key>()
 {}
 
 // Every definition in use is the textbook's, by position and oldest first, and so is the access log of any calls.
+#[tactic(auto, using(crate::proofs::Positions::agrees))]
 pub fn textbook_agrees<K: Key>()
     ensures { TextbookAgrees K.same }
 {}

@@ -1,6 +1,7 @@
 // Moves of entries within a slice. (Each asks for an index within it: a struct of slice and index would be made for one
-// call.)
-ghost use Rattle.std.specs.Prelude.{◌≡◌, ◌+◌, ◌-◌, ◌<◌, ◌≤◌, ◌∷◌, ◌++◌, length, take, drop, nat_le};
+// call. `admit` and `remove` answer the new number of entries, so that a wrong one breaks their contracts.)
+ghost use Rattle.std.specs.Prelude.{◌≡◌, ◌+◌, ◌-◌, ◌<◌, ◌≤◌, ◌∷◌, ◌++◌, length, take, drop, nat_le, slice_index_or};
+ghost use Rattle.locality.specs.declared.entry.Entry.{Entry};
 ghost use Rattle.std.specs.List.{position_or_len};
 ghost use Rattle.locality.specs.Recency.{at_time};
 
@@ -8,19 +9,15 @@ use keys::Key;
 use locality::Entry;
 use recency::touched_entry;
 
-// The entry stored at `at` goes to the front with a new time. Answers its depth and its former time.
-pub(crate) fn renew<K: Key>(
-    slots: &mut [Entry<K>],
-    at: usize,
-    stored: Entry<K>,
-    key: K,
-    time: u16,
-) -> (u32, u16)
+// The entry stored at `at` goes to the front with a new time. Answers its depth and its former time. (At most 4,096, so `as`
+// keeps the number.)
+pub(crate) fn renew<K: Key>(slots: &mut [Entry<K>], at: usize, key: K, time: u16) -> (u32, u16)
     requires inside { at < length slots.old }
     requires depth { at < 4096 }
-    ensures told { result ≡ (at + 1, stored.time) }
-    ensures slots { slots.new ≡ at_time stored.key time ∷ (take at slots.old ++ drop (at + 1) slots.old) }
+    ensures told { (d : Entry K) → result ≡ (at + 1, (slice_index_or slots.old at d).time) }
+    ensures slots { (d : Entry K) → slots.new ≡ at_time (slice_index_or slots.old at d).key time ∷ (take at slots.old ++ drop (at + 1) slots.old) }
 {
+    let stored = slots[at];
     shift_in(slots, at, touched_entry(Some(stored), key, time));
     (at as u32 + 1, stored.time)
 }

@@ -62,8 +62,7 @@ impl<'a, K: Key> Ordered<'a, K> {
         ensures rule { OrderedRule K.Key.same key time self.old self.new (Ok (Some result)) }
         ensures always { OrderedTouch K.Key.same key time self.old self.new (Ok (Some result)) }
     {
-        let stored = self.slots[at];
-        renew(self.slots, at, stored, key, time)
+        renew(self.slots, at, key, time)
     }
 
     // A touch of a key that no entry has.

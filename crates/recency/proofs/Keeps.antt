@@ -144,9 +144,9 @@ module _ {K : Type 0} {same : K → K → Bool} (laws : Lawful same) where
       let o : same x k ≡ false → held same x (without (same k) (keys es)) ≡ held same x (keys es) = held-without laws x k (keys es) in
       grind arith
 
-  pub touch-held : (places : ℕ) (x k : K) (t : ℕ) (es : List (Entry K)) →
+  pub touch_held : (places : ℕ) (x k : K) (t : ℕ) (es : List (Entry K)) →
       held same x (keys (touch_list same places k t es)) ≡ (held same x (keys es) || (has_room same places k es && same x k))
-  touch-held places x k t es =
+  touch_held places x k t es =
       ⊎_elim
       (λ (y : has_room same places k es ≡ true).
       ap (λ l. held same x (keys l)) (cond-true _ (touched same k t es) es y) ∙ held-touched x k t es ∙ ap (λ b. held same x (keys es) || (b && same x k)) (sym y))
@@ -176,6 +176,15 @@ module _ {K : Type 0} {same : K → K → Bool} (laws : Lawful same) where
 
   pub undone_told : TouchUndone same
   undone_told places k t es answer o l a = told_undone places k t es (touch_list same places k t es) answer (former_time answer) o l a refl refl
+
+  -- a touch that was not refused, and a put back of the time that it answered
+  pub peeked : {k : K} {t former room room' room'' : ℕ} {es mid after : List (Entry K)} {sound sound' sound'' : Type 0} {answer : Option (ℕ × ℕ)} →
+      (sound → Kept same room es) → Touching same k t room room' es mid sound sound' (Ok answer) → PuttingBack same former room' room'' mid after sound' sound'' → former ≡ former_time answer →
+      sound → Later t es → (Ok answer ≡ touch_answer same room k es) × (after ≡ es) × sound''
+  peeked {k = k} {t = t} kept rule back f s l =
+      let told = told_undone _ k t _ _ _ _ (kept s) l (rule.answers s l) (rule.list s l) f in
+      let stays = rule.stays s l in
+      (rule.answers s l, back.list stays told.0 ∙ told.1, back.stays stays told.0)
 
   -- what a touch owes of a store whose soundness is that of its list, once its answer and list are by the rules
   pub owed_touch : (k : K) (t room room' : ℕ) (es es' : List (Entry K)) (r : Result (Option (ℕ × ℕ)) Refusal) → room' ≡ room →

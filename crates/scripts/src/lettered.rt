@@ -11,7 +11,7 @@ pub(crate) trait Lettered: Key {
     // The key of a letter.
     fn lettered(letter: u8) -> Self;
 
-    // Writes the key.
+    // Writes the key, as `Display` would; the kinds are another crate's, which does not print them.
     fn show<W: fmt::Write>(&self, f: &mut fmt::Formatter<W>) -> fmt::Result;
 }
 

@@ -83,6 +83,7 @@ impl<K: Key> Subject for ByRules<K> {
             Some(at) => {
                 let entry = self.entries.remove(at);
                 self.insert(0, entry.key, time);
+                // At most 64 places, so `as` keeps the number.
                 Ok(Some((at as u32 + 1, entry.time)))
             }
             None if self.entries.len() < places => {

@@ -12,7 +12,8 @@ use locality::Entry;
 use recency::RecencyStore;
 use refusals::Refusal;
 
-// A store over a slice that the caller provides. An entry stays in the slot that it took; a time of 0 marks a free slot.
+// A store over a slice that the caller provides. An entry stays in the slot that it took; a time of 0 marks a free slot, since
+// the slots are the caller's entries, each rewritten whole.
 #[derive(Drop)]
 pub struct Unordered<'a, K> {
     slots: &'a mut [Entry<K>],
@@ -36,6 +37,7 @@ impl<'a, K: Key> Unordered<'a, K> {
 // The clauses named `always`, `sorted`, `slots` and `callers` hold whatever calls came before. Outside the premises the
 // list is free, limited by what the slots then hold. Which free slot a first touch takes is free at all times, and so is
 // which of several slots is taken that have one key, or the latest time, or one rank, as can be outside the premises.
+// (`callers` compares a store before and after a call, which no invariant can.)
 impl<'a, K: Key> RecencyStore for Unordered<'a, K> {
     type Key = K;
 
@@ -47,6 +49,7 @@ impl<'a, K: Key> RecencyStore for Unordered<'a, K> {
 
     ghost kept = { λ s h. h };
 
+    // At most 4,096, so `as` keeps the number.
     fn places(&self) -> u32 {
         places(self.slots) as u32
     }

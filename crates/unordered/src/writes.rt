@@ -1,5 +1,5 @@
 // What is written in a caller's slots. An entry is rewritten whole, and a call writes one at most, but to free every place.
-ghost use Rattle.std.specs.Prelude.{◌≡◌, ◌+◌, ◌<◌, ◌≤◌, [], length, None, Some, slice_set};
+ghost use Rattle.std.specs.Prelude.{◌≡◌, ◌+◌, ◌<◌, ◌≤◌, [], length, map, None, Some, slice_set};
 ghost use Rattle.std.specs.List.{slice_get};
 ghost use Rattle.locality.specs.declared.entry.Entry.{Entry};
 ghost use Rattle.locality.specs.Numbers.{count_above};
@@ -19,12 +19,16 @@ pub(crate) fn free_all<K: Key>(slots: &mut [Entry<K>])
     ensures list { list_in slots.new ≡ [] }
     ensures sound { KeptIn K.same slots.new }
 {
-    // By index: `iter_mut` tells nothing of what the slice then holds.
-    for i in 0..places(slots) {
-        slots[i] = Entry {
-            time: 0,
-            ..slots[i]
-        };
+    let n = places(slots);
+    free(&mut slots[..n]);
+}
+
+// Frees every slot.
+fn free<K: Copy>(slots: &mut [Entry<K>])
+    ensures { slots.new ≡ map (λ e. at_time e.key 0) slots.old }
+{
+    for slot in slots.iter_mut() {
+        *slot = Entry { time: 0, ..*slot };
     }
 }
 

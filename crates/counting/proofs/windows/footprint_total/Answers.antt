@@ -1,10 +1,11 @@
 use Rattle.std.proofs.Common.{◌≡◌, ◌≤◌, length, take, sym, ap, ◌∙◌, reverse, arith, length-drop}
 use Rattle.locality.specs.Log.{distinct, total}
-use Rattle.counting.proofs.Slices.{total_zero, total_short, total_next}
+use Rattle.locality.proofs.Curves.{total_zero}
+use Rattle.counting.proofs.Slices.{total_short, total_next}
 use Rattle.counting.proofs.windows.footprint_total.Goals as goal
 
 pub returns-then-window-eq0 : goal.returns-then-window-eq0
-returns-then-window-eq0 g c = rw c.if-window-eq0.true (sym (total_zero g.K.Key.same (reverse c.args.keys.now)))
+returns-then-window-eq0 g c = rw c.if-window-eq0.true (sym (total_zero g.met.K.Key.lawful (reverse c.args.keys.now)))
 
 pub loop-keys-preserved : goal.loop-keys-preserved
 loop-keys-preserved g c =

@@ -2,20 +2,18 @@ use Rattle.std.proofs.Common.{◌≡◌, ◌+◌, true, false, Some, None, ap, �
 use Rattle.locality.specs.Numbers.{sum_above}
 use Rattle.locality.specs.Tables.{is_table, last_entry, misses_of_table}
 use Rattle.std.specs.List.{slice_index}
-use Rattle.locality.proofs.OfTables.{misses-told}
 use Rattle.locality.proofs.tables.table_misses.Goals as goal
 
 pub returns-in_err-of : goal.returns-in_err-of
-returns-in_err-of g c =
+returns-in_err-of c =
     let y : is_table c.args.depths.now ≡ false = c.in_err-of.ensures in
     let a : None ≡ misses_of_table c.args.size c.args.keys c.args.depths.now = rw y in
-    misses-told g.met.K.Key.lawful _ _ _ _ (c.from_residual.ensures ∙ a)
+    c.from_residual.ensures ∙ a
 
 pub returns : goal.returns
-returns g c =
+returns c =
     let xs = c.args.depths.now in
     let of = c.in_ok-of.ensures in
     let y : is_table xs ≡ true = of.0 in
     let sum = c.beyond.ensures.value ∙ ap (λ es. sum_above c.args.size (last_entry es) (λ d. slice_index es d)) of.1 in
-    let a : Some (c.from.result + c.beyond.result) ≡ misses_of_table c.args.size c.args.keys xs = rw y (ap Some (ap₂ ◌+◌ c.from.ensures sum)) in
-    misses-told g.met.K.Key.lawful _ _ _ _ a
+    rw y (ap Some (ap₂ ◌+◌ c.from.ensures sum))
