@@ -6,8 +6,9 @@ ghost use Rattle.counting.specs.Memory.{memory_after};
 use crate::finds::find;
 use keys::Key;
 
-// The misses of a cache with as many places as the slice has, empty at the start. The slice is the cache's memory:
-// it then holds the keys of the cache, the newest first, and behind them what it held before.
+// The misses of a cache with as many places as the slice has, empty at the start. The slice is the cache's memory: it
+// then holds the keys of the cache, the newest first, and behind them what it held before. (A loop: a proof knows
+// nothing of a cache that a closure changes.)
 pub fn lru_misses<K: Key>(keys: &[K], places: &mut [K]) -> usize
     ensures misses { result ≡ misses K.same (length places.old) (reverse keys.now) }
     ensures places { places.new ≡ memory_after K.same keys.now places.old }

@@ -5,7 +5,7 @@ ghost use Rattle.locality.specs.Log.{distinct, windows, total};
 use crate::finds::is_held;
 use keys::Key;
 
-// The number of different keys.
+// The number of different keys. (As a chain with `filter` and `count`, the number stays open.)
 pub fn distinct_keys<K: Key>(keys: &[K]) -> usize
     ensures slice { result ≡ distinct K.same keys.now }
     ensures log { result ≡ distinct K.same (reverse keys.now) }
@@ -37,7 +37,8 @@ fn window_count<K: Key>(keys: &[K], window: usize) -> u128
         .map_or(0, |last| last as u128 + 1)
 }
 
-// The different keys of each window, counted afresh and added up.
+// The different keys of each window, counted afresh and added up. (As a chain with `map` and `sum`, bound and value
+// stay open.)
 fn footprint_total<K: Key>(keys: &[K], window: usize) -> u128
     ensures { result ≡ total K.same window (reverse keys.now) }
 {

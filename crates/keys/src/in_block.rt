@@ -7,7 +7,7 @@ use crate::block::{Block, one_block};
 use crate::kind::Key;
 use std::marker::PhantomData;
 
-// A block size, as a type of its own.
+// A block size, as a type of its own. (No number as a parameter: that would allow 0, for which there is no block.)
 pub trait BlockSize: Copy {
     // The size in bytes.
     const BYTES: u64;

@@ -13,6 +13,7 @@ impl BlockSize for CacheLine {
 
     ghost BYTES = { 64 };
 
+    // (Written out: what a tactic finds would be a part of what others read.)
     ghost some = { ltb-true 0 64 refl };
 }
 

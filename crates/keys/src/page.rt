@@ -13,6 +13,7 @@ impl BlockSize for MemoryPage {
 
     ghost BYTES = { 4096 };
 
+    // (Written out: what a tactic finds would be a part of what others read.)
     ghost some = { ltb-true 0 4096 refl };
 }
 

@@ -1,4 +1,5 @@
--- Sums and counts over lists and over tables.
+-- Sums and counts over lists and over tables. (Not by the library's sum: that is a fold from the left, and these read
+-- from the front, like the definitions over logs.)
 use Rattle.std.specs.Prelude.{ℕ, zero, suc, ◌+◌, if◌then◌else◌, List, [], ◌∷◌, ◌==◌, nat_lt}
 
 -- the sum of f over a list

@@ -20,7 +20,8 @@ difference a b = if nat_le b a then Some (a - b) else None
 abbrev pub beyond : ℕ → List ℕ → ℕ
 beyond w table = sum_above w (last_entry table) (λ i. (i - w) * slice_index table i)
 
--- the footprint formula on a gap table and m keys; none for what is no table, for a length past n, and where the sum is too large
+-- the footprint formula on a gap table and m keys; none for what is no table, for a length past n, and where the sum is
+-- too large
 abbrev pub total_of_table : ℕ → ℕ → List ℕ → Option ℕ
 total_of_table w m table =
     if is_table table && nat_le w (last_entry table) then difference (m * (last_entry table - w + 1)) (beyond w table) else None

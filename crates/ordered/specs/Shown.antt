@@ -19,7 +19,8 @@ ordered_list s = take s.count s.slots.now
 abbrev pub ordered_sound : {K : Type 0} → (K → K → Bool) → Ordered K → Type 0
 ordered_sound same s = Kept same (ordered_places s) (ordered_list s)
 
--- what every store's touch of k at time t owes, of an ordered store before and after it
+-- what every store's touch of k at time t owes, of an ordered store before and after it (each store has this and the next:
+-- what they share is `Touching` and `PuttingBack`, and these name its own places, list and soundness)
 abbrev pub OrderedRule : {K : Type 0} → (K → K → Bool) → K → ℕ → Ordered K → Ordered K → Result (Option (ℕ × ℕ)) Refusal → Type 0
 OrderedRule same k t s s' r =
     Touching same k t (ordered_places s) (ordered_places s') (ordered_list s) (ordered_list s') (ordered_sound same s) (ordered_sound same s') r

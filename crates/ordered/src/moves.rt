@@ -9,8 +9,8 @@ use keys::Key;
 use locality::Entry;
 use recency::touched_entry;
 
-// The entry stored at `at` goes to the front with a new time. Answers its depth and its former time. (At most 4,096, so `as`
-// keeps the number.)
+// The entry stored at `at` goes to the front with a new time. Answers its depth and its former time. (At most 4,096, so
+// `as` keeps the number.)
 pub(crate) fn renew<K: Key>(slots: &mut [Entry<K>], at: usize, key: K, time: u16) -> (u32, u16)
     requires inside { at < length slots.old }
     requires depth { at < 4096 }

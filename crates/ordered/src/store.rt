@@ -5,10 +5,11 @@ ghost use Rattle.recency.specs.Rules.{places_in};
 use crate::moves::{admit, later_ones, lower, remove, renew};
 use keys::Key;
 use locality::Entry;
-use recency::RecencyStore;
+use recency::{RecencyStore, places_in};
 use refusals::Refusal;
 
-// A store over a slice that the caller provides. Its list stands in the first `count` slots, newest first.
+// A store over a slice that the caller provides. Its list stands in the first `count` slots, newest first. (A slice and
+// a count and no `Vec`: the memory is the caller's, and a store allocates nothing.)
 #[derive(Drop)]
 pub struct Ordered<'a, K> {
     slots: &'a mut [Entry<K>],
@@ -75,7 +76,8 @@ impl<'a, K: Key> Ordered<'a, K> {
         self.count = admit(self.slots, self.count, key, time);
     }
 
-    // A put back. Its proof is written by hand, so the public method stands apart and only calls it.
+    // A put back. (It has the contract of the public method: with an attribute that names the lemmas the proof of that
+    // one is not found, and by hand it would hide a wrong body.)
     fn take_back(&mut self, former: u16)
         ensures rule { OrderedBackRule K.Key.same former self.old self.new }
         ensures always { OrderedBack former self.old self.new }
@@ -109,9 +111,9 @@ impl<'a, K: Key> RecencyStore for Ordered<'a, K> {
 
     ghost kept = { λ s h. h };
 
-    // At most 4,096, so `as` keeps every number here and below; `try_from` would add a branch for what cannot be.
+    // At most 4,096, so `as` keeps the number here and in `held`; `try_from` would add a branch for what cannot be.
     fn places(&self) -> u32 {
-        self.slots.len().min(4096) as u32
+        places_in(self.slots) as u32
     }
 
     fn held(&self) -> u32
@@ -121,6 +123,7 @@ impl<'a, K: Key> RecencyStore for Ordered<'a, K> {
         self.count as u32
     }
 
+    // `as`: there is no `From` of a `u32` for a `usize`, which holds every one.
     fn entry(&self, j: u32) -> Option<Entry<K>>
         ensures value { ordered_sound K.Key.same self.now → result ≡ key_at (ordered_list self.now) j }
         ensures always { result ≡ key_at (ordered_list self.now) j }

@@ -46,9 +46,10 @@ pub trait RecencyStore {
         ensures rule { Touching Self.Key.Key.same key time (room self.old) (room self.new) (entries self.old) (entries self.new) (sound self.old) (sound self.new) result }
         ensures refusal { is_err result ≡ true → self.new ≡ self.old };
 
-    // Takes the newest touch back. Given 0, after a first touch, the front entry goes; given the former time that the touch
-    // answered, the front entry takes it and moves behind all entries with later times. The premise: the list is not empty,
-    // and a time other than 0 is earlier than the front's and no entry has it.
+    // Takes the newest touch back. Given 0, after a first touch, the front entry goes (0 and no `Option`: times begin
+    // at 1); given the former time that the touch answered, the front entry takes it and moves behind all entries with
+    // later times. The premise: the list is not empty, and a time other than 0 is earlier than the front's and no entry
+    // has it.
     fn put_back(&mut self, former: u16)
         ensures rule { PuttingBack Self.Key.Key.same former (room self.old) (room self.new) (entries self.old) (entries self.new) (sound self.old) (sound self.new) };
 

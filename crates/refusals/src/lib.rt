@@ -39,7 +39,7 @@ pub enum Refusal {
 }
 
 impl Refusal {
-    // The number by which programs and the host name the refusal.
+    // The number by which programs and the host name the refusal. (`as` is the form for an enum's own values.)
     pub fn number(self) -> u32
         ensures { result ≡ number_of self }
     {

@@ -8,7 +8,7 @@ use std::fmt;
 
 // A key kind that can be made of a letter and shown.
 pub(crate) trait Lettered: Key {
-    // The key of a letter.
+    // The key of a letter. (No `From<u8>`: the kinds are another crate's.)
     fn lettered(letter: u8) -> Self;
 
     // Writes the key, as `Display` would; the kinds are another crate's, which does not print them.
@@ -26,8 +26,8 @@ fn number_of(letter: u8) -> u8
     }
 }
 
-// The first byte of a letter's block, or the last one for a capital. (What the sizes here give fits 64 bits; a bound on every
-// size would be one more law.)
+// The first byte of a letter's block, or the last one for a capital. (What the sizes here give fits 64 bits; a bound on
+// every size would be one more law.)
 fn byte_of(letter: u8, size: u64) -> u64 {
     let first = u64::from(number_of(letter)).saturating_mul(size);
     if letter.is_ascii_uppercase() {

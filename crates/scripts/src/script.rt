@@ -79,8 +79,8 @@ fn parts(line: &[u8]) -> Option<(u8, &[u8])> {
     Some((places_of(&line[..colon])?, &line[colon + 1..]))
 }
 
-// The number of places that digits write; none for other bytes, and past 64. (Not by `parse`: no digit writes 0 here, and a
-// sign is no digit.)
+// The number of places that digits write; none for other bytes, and past 64. (Not by `parse`: an empty text writes 0
+// here, and a sign is no digit.)
 fn places_of(digits: &[u8]) -> Option<u8> {
     digits
         .iter()

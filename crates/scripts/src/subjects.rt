@@ -13,6 +13,7 @@ pub(crate) trait Subject {
 
     fn touch(&mut self, key: Self::Key, time: u16) -> Result<Option<(u32, u16)>, Refusal>;
 
+    // 0 after a first touch, as a store takes it.
     fn put_back(&mut self, former: u16);
 
     fn empty(&mut self);

@@ -51,7 +51,8 @@ unordered_list s = list_in s.slots.now
 abbrev pub unordered_sound : {K : Type 0} → (K → K → Bool) → Unordered K → Type 0
 unordered_sound same s = KeptIn same s.slots.now
 
--- what every store's touch of k at time t owes, of slots before and after it
+-- what every store's touch of k at time t owes, of slots before and after it (each store has this and the next:
+-- what they share is `Touching` and `PuttingBack`, and these name its own places, list and soundness)
 abbrev pub SlotsRule : {K : Type 0} → (K → K → Bool) → K → ℕ → List (Entry K) → List (Entry K) → Result (Option (ℕ × ℕ)) Refusal → Type 0
 SlotsRule same k t slots slots' r =
     Touching same k t (places_in slots) (places_in slots') (list_in slots) (list_in slots') (KeptIn same slots) (KeptIn same slots') r

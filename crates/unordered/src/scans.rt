@@ -8,19 +8,13 @@ ghost use Rattle.unordered.specs.Shown.{in_places, holds, is_free, place_for, Ra
 
 use keys::Key;
 use locality::Entry;
-
-// The number of places.
-pub(crate) fn places<K>(slots: &[Entry<K>]) -> usize
-    ensures { result ≡ places_in slots.now }
-{
-    slots.len().min(4096)
-}
+use recency::places_in;
 
 // The slots that are places.
 fn in_places<K>(slots: &[Entry<K>]) -> &[Entry<K>]
     ensures { result.now ≡ in_places slots.now }
 {
-    &slots[..places(slots)]
+    &slots[..places_in(slots)]
 }
 
 // The first place that holds the key.

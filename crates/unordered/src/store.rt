@@ -5,15 +5,16 @@ ghost use Rattle.recency.specs.Rules.{places_in};
 ghost use Rattle.recency.specs.ByTime.{SortedByTime};
 ghost use Rattle.unordered.specs.Shown.{in_places, held_in, unordered_places, unordered_list, unordered_sound, UnorderedRule, UnorderedBackRule, freed, TouchedSlots, RankedIn, PutBackSlots};
 
-use crate::scans::{later_than, places, ranked};
+use crate::scans::{later_than, ranked};
 use crate::writes::{free_all, take_back, touch_slot};
 use keys::Key;
 use locality::Entry;
-use recency::RecencyStore;
+use recency::{RecencyStore, places_in};
 use refusals::Refusal;
 
-// A store over a slice that the caller provides. An entry stays in the slot that it took; a time of 0 marks a free slot, since
-// the slots are the caller's entries, each rewritten whole.
+// A store over a slice that the caller provides. An entry stays in the slot that it took; a time of 0 marks a free
+// slot, since the slots are the caller's entries, each rewritten whole. (No `Vec`: the memory is the caller's, and a
+// store allocates nothing.)
 #[derive(Drop)]
 pub struct Unordered<'a, K> {
     slots: &'a mut [Entry<K>],
@@ -51,7 +52,7 @@ impl<'a, K: Key> RecencyStore for Unordered<'a, K> {
 
     // At most 4,096, so `as` keeps the number.
     fn places(&self) -> u32 {
-        places(self.slots) as u32
+        places_in(self.slots) as u32
     }
 
     #[tactic(auto, using(crate::proofs::Slots::count_held, recency::proofs::ByTime::length_by_time))]
@@ -71,6 +72,7 @@ impl<'a, K: Key> RecencyStore for Unordered<'a, K> {
         ranked(self.slots, j)
     }
 
+    #[tactic(auto, using(crate::proofs::Calls::touch_owes))]
     fn touch(&mut self, key: K, time: u16) -> Result<Option<(u32, u16)>, Refusal>
         ensures rule { UnorderedRule K.Key.same key time self.old self.new result }
         ensures refusal { is_err result ≡ true → self.new ≡ self.old }

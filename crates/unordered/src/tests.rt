@@ -1,5 +1,5 @@
-// Both ends of every bound, and what a store leaves in the caller's slice. (The tests of the crate `ordered` are alike, on the
-// other store: the two crates share nothing that is only for tests.)
+// Both ends of every bound, and what a store leaves in the caller's slice. (The tests of the crate `ordered` are alike,
+// on the other store: the two crates share nothing that is only for tests.)
 ghost use Rattle.std.specs.Prelude.{◌≡◌};
 ghost use Rattle.unordered.specs.Shown.{freed};
 

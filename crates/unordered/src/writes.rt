@@ -5,11 +5,12 @@ ghost use Rattle.locality.specs.declared.entry.Entry.{Entry};
 ghost use Rattle.locality.specs.Numbers.{count_above};
 ghost use Rattle.locality.specs.Recency.{at_time, times_of};
 ghost use Rattle.recency.specs.Rules.{places_in};
-ghost use Rattle.unordered.specs.Shown.{in_places, list_in, KeptIn, freed, SlotsRule, SlotsBackRule, TouchedSlots, PutBackSlots};
+ghost use Rattle.unordered.specs.Shown.{in_places, list_in, KeptIn, freed, SlotsBackRule, TouchedSlots, PutBackSlots};
 
-use crate::scans::{later_than, latest, place_for, places};
+use crate::scans::{later_than, latest, place_for};
 use keys::Key;
 use locality::Entry;
+use recency::places_in;
 use refusals::Refusal;
 
 // Frees every place; the slots past the places are not written.
@@ -19,7 +20,7 @@ pub(crate) fn free_all<K: Key>(slots: &mut [Entry<K>])
     ensures list { list_in slots.new ≡ [] }
     ensures sound { KeptIn K.same slots.new }
 {
-    let n = places(slots);
+    let n = places_in(slots);
     free(&mut slots[..n]);
 }
 
@@ -55,8 +56,7 @@ pub(crate) fn touch_slot<K: Key>(
     key: K,
     time: u16,
 ) -> Result<Option<(u32, u16)>, Refusal>
-    ensures rule { SlotsRule K.same key time slots.old slots.new result }
-    ensures slots { TouchedSlots K.same key time slots.old slots.new result }
+    ensures { TouchedSlots K.same key time slots.old slots.new result }
 {
     let Some(at) = place_for(slots, &key) else {
         return Err(Refusal::NoPlace);
@@ -64,7 +64,9 @@ pub(crate) fn touch_slot<K: Key>(
     Ok(touch_place(slots, at, key, time))
 }
 
-// A put back: a place with the latest time takes the time given, by which 0 frees it.
+// A put back: a place with the latest time takes the time given, by which 0 frees it. (It has the contract of the public
+// method, over slots: with an attribute that names the lemma the proof of that one is not found, and by hand it would
+// hide a wrong body.)
 pub(crate) fn take_back<K: Key>(slots: &mut [Entry<K>], former: u16)
     ensures rule { SlotsBackRule K.same former slots.old slots.new }
     ensures slots { PutBackSlots former slots.old slots.new }
