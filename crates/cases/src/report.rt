@@ -1,5 +1,5 @@
 // The text that answers a line: what its burst measures, or what is wrong with it.
-ghost use Rattle.std.specs.Prelude.{◌≡◌, ◌+◌, ◌≤◌, ◌++◌, reverse, length, IfOk, string_bytes, OnOk};
+ghost use Rattle.std.specs.Prelude.{◌≡◌, ◌++◌, reverse, IfOk, string_bytes, OnOk};
 ghost use Rattle.cases.specs.Texts.{cell_text, row_text, rows_text, head_text, burst_text, stray_text, long_text, answer_text};
 
 use crate::curve::Curve;

@@ -1,5 +1,5 @@
 // Intervals and distances, by looking back from a position.
-ghost use Rattle.std.specs.Prelude.{◌≡◌, ◌<◌, ◌≤◌, true, reverse, length};
+ghost use Rattle.std.specs.Prelude.{◌≡◌, reverse};
 ghost use Rattle.locality.specs.Calls.{interval_answer, distance_answer};
 
 use crate::position::Position;

@@ -1,5 +1,5 @@
 // A position of a slice of keys, and what is told by looking back from it.
-ghost use Rattle.std.specs.Prelude.{◌≡◌, ◌<◌, ◌≤◌, Bool, true, false, reverse, length, MatchOption, MatchResult};
+ghost use Rattle.std.specs.Prelude.{◌≡◌, ◌<◌, ◌≤◌, true, false, reverse, length, MatchOption, MatchResult};
 ghost use Rattle.refusals.specs.declared.Refusal.TheVariants.{NoSuchPosition};
 ghost use Rattle.locality.specs.Log.{interval_at, distance_at};
 ghost use Rattle.locality.specs.ByPosition.{same_at, greatest, former_of};

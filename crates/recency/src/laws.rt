@@ -1,7 +1,7 @@
 // What holds of every store that keeps its meaning, from the trait alone. As in the trait, what is told of the answer and
 // the list holds of a sound store under the premise of a touch, and is free otherwise. Clauses that several functions have
 // compare a store before a call with the store after it, which no invariant can.
-ghost use Rattle.std.specs.Prelude.{◌≡◌, ◌≤◌, true, ◌&&◌, ◌||◌, [], is_err};
+ghost use Rattle.std.specs.Prelude.{◌≡◌, true, ◌&&◌, ◌||◌, [], is_err};
 ghost use Rattle.locality.specs.Log.{held};
 ghost use Rattle.locality.specs.Recency.{former_time, keys};
 ghost use Rattle.recency.specs.Rules.{has_room, touch_answer, touch_list, Later, Touching, TouchUndone, RulesKeepLists};

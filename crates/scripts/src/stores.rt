@@ -2,7 +2,7 @@
 use crate::lettered::{Lettered, Listed};
 use crate::script::{Script, ScriptError, Step};
 use crate::subjects::{ByRules, Subject};
-use keys::{Key, Line, Object, Page};
+use keys::{Line, Object, Page};
 use lines::{Quoted, without_return};
 use locality::Entry;
 use ordered::Ordered;

@@ -1,14 +1,13 @@
 -- The places of slots: what is read there, what a search of them finds, and what becomes of them. Assumes nothing.
-use Rattle.std.proofs.Common.{◌≡◌, ℕ, zero, suc, ◌<◌, min, Bool, true, false, cond, ltb, List, [], ◌∷◌, ◌++◌, map, length, get_or, take, drop, set, Some, None, sym, refl, ap, ◌∙◌, ap₂, arith, ⊎_elim}
-use Rattle.std.specs.List.{All, AllByRecursion, position_or_len, position, slice_get}
+use Rattle.std.proofs.Common.{◌≡◌, ℕ, zero, suc, ◌<◌, min, Bool, true, false, cond, ltb, List, [], ◌∷◌, ◌++◌, map, length, get_or, take, drop, set, Some, None, sym, refl, ap, ◌∙◌, ap₂, arith}
+use Rattle.std.specs.List.{All, AllByRecursion, position, slice_get}
 use Rattle.std.proofs.ByRecursion.{All-from_get_or}
-use Rattle.std.proofs.lemmas.Bool.{cases_Bool, ltb-false, cond-true}
 use Rattle.std.proofs.lemmas.List.{length-take, get_or-take}
 use Rattle.std.proofs.Math.Seq.{take-set-lt}
 use Rattle.std.proofs.lemmas.Option.{slice_get-get_or}
 use Rattle.std.proofs.lemmas.List.Quantifiers.{position-Some}
 use Rattle.locality.proofs.Slices.{front_cut, rest_cut}
-use Rattle.locality.proofs.Finds.{none_passes}
+use Rattle.locality.proofs.Finds.{none_passes, index_none}
 use Rattle.locality.specs.declared.entry.Entry.{Entry}
 use Rattle.std.specs.List.{count_by}
 use Rattle.std.proofs.lemmas.List.Recursion.{is_sum_by}
@@ -61,13 +60,7 @@ module _ {K : Type 0} where
 
   -- where it answers none, none passes
   pub place_none : (passes : Entry K → Bool) (S : List (Entry K)) → position passes (in_places S) ≡ None → AllByRecursion (λ e. passes e ≡ false) (in_places S)
-  place_none passes S e =
-      let L = in_places S in
-      let p = position_or_len passes L in
-      ⊎_elim
-      (λ (t : ltb p (length L) ≡ true). let f : Some p ≡ None = sym (cond-true (ltb p (length L)) (Some p) None t) ∙ e in absurd (cc))
-      (λ (t : ltb p (length L) ≡ false). none_passes passes L (ltb-false p (length L) t))
-      (cases_Bool (ltb p (length L)))
+  place_none passes S e = none_passes passes (in_places S) (index_none passes (in_places S) (sym e)).0
 
   -- the entry that stands in a place
   pub place_read : (S : List (Entry K)) (i : ℕ) (d : Entry K) → i < length (in_places S) → slice_get (in_places S) i ≡ Some (get_or S i d)
