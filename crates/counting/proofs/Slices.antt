@@ -1,12 +1,12 @@
 -- The definitions on a slice of keys, the oldest access first. Assumes nothing.
-use Rattle.std.proofs.Common.{◌≡◌, ℕ, zero, suc, ◌+◌, ◌-◌, ◌<◌, ◌≤◌, Bool, true, false, cond, eqb, List, [], ◌∷◌, ◌++◌, map, reverse, length, get_or, take, drop, Some, None, Option, filter, sym, refl, ap, ◌∙◌, ap₂, ⊎_elim, add-one, arith}
+use Rattle.std.proofs.Common.{◌≡◌, ℕ, zero, suc, ◌+◌, ◌-◌, ◌<◌, ◌≤◌, Bool, true, false, cond, eqb, ltb, List, [], ◌∷◌, ◌++◌, map, reverse, length, get_or, take, drop, Some, None, Option, filter, sym, refl, ap, ◌∙◌, ap₂, ⊎_elim, add-one, arith}
 use mathlib.Core.Bool.{false≢true}
 use Rattle.std.proofs.lemmas.List.{reverse-reverse, length-reverse, length-take, length-take-le, map-id, take_more, get_or-take, get_or_default}
-use Rattle.std.proofs.lemmas.Bool.{cases_Bool, cases_lt}
+use Rattle.std.proofs.lemmas.Bool.{cases_Bool, cases_lt, ltb-true}
 use Rattle.std.specs.List.{position_or_len, range_with_len}
 use Rattle.keys.specs.Sameness.{Lawful}
 use Rattle.locality.proofs.Sums.{sum_over-append, sum_over-map, sum_over_each, sum_over-add}
-use Rattle.locality.proofs.Finds.{first_at, without_at}
+use Rattle.locality.proofs.Finds.{first_at, without_at, any_first}
 use Rattle.locality.proofs.Slices.{element_read}
 use Rattle.locality.proofs.Sameness.{distinct_push}
 use Rattle.locality.proofs.Positions.{positions_more, textbook, cache_more, misses_more}
@@ -35,6 +35,11 @@ sum_more f n =
 shifted : (f g : ℕ → ℕ) → ((s : ℕ) → 1 ≤ s → f (s + 1) ≡ g s) → (a n : ℕ) → 1 ≤ a → sum_over f (range_with_len (a + 1) n) ≡ sum_over g (range_with_len a n)
 shifted f g h a zero l = refl
 shifted f g h a (suc n) l = ap₂ ◌+◌ (h a l) (shifted f g h (a + 1) n (omega arith))
+
+-- the greatest position that passes is further back than one that does not
+pub greatest-back : (f : ℕ → Bool) (p : ℕ) → 0 < p → f p ≡ false → greatest f (p - 1) ≡ greatest f p
+greatest-back f zero h y = absurd (omega arith)
+greatest-back f (suc p) h y = let e : suc p - 1 ≡ p = omega arith in rw (y, e)
 
 -- the greatest position that passes, by what is known of each
 pub greatest_none : (f : ℕ → Bool) (n : ℕ) → ((j : ℕ) → 1 ≤ j → j ≤ n → f j ≡ false) → greatest f n ≡ 0
@@ -80,9 +85,10 @@ module _ {K : Type 0} (same : K → K → Bool) where
       (greatest_at (same_at same xs t) most (i + 1) (omega arith) low passes fails, omega arith, low)
 
   -- what a cache holds after a hit on the key x at index i, and after a miss
-  pub after_hit : (c : ℕ) (k x : K) (ks : List K) (i : ℕ) → position_or_len (same k) ks ≡ i → i < length ks → held same k ks ≡ true → x ≡ get_or ks i x →
+  pub after_hit : (c : ℕ) (k x : K) (ks : List K) (i : ℕ) → position_or_len (same k) ks ≡ i → held same k ks ≡ true → x ≡ get_or ks i x →
       x ∷ (take i ks ++ drop (i + 1) ks) ≡ accessed same c k ks
-  after_hit c k x ks i e h y d =
+  after_hit c k x ks i e y d =
+      let h : i < length ks = ltb-true i (length ks) (ap (λ j. ltb j (length ks)) (sym e) ∙ any_first (same k) ks ∙ y) in
       ap₂ ◌∷◌ (first_at (same k) k x ks i e h d) (ap (λ j. take i ks ++ drop j ks) (add-one i) ∙ without_at (same k) ks i e h) ∙ rw y
 
   pub after_miss : (c : ℕ) (k : K) (ks : List K) → held same k ks ≡ false → take c (k ∷ ks) ≡ accessed same c k ks

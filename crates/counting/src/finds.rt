@@ -13,11 +13,16 @@ pub(crate) fn find<K: Key>(keys: &[K], key: &K) -> Option<usize>
     keys.iter().position(|other| key.same_as(other))
 }
 
-// Whether the slice has a same key.
+// Whether the slice has a same key. (A loop: `any` takes longer where a search ends soon.)
 pub(crate) fn is_held<K: Key>(keys: &[K], key: &K) -> bool
     ensures { result ≡ held K.same key.now keys.now }
 {
-    keys.iter().any(|other| key.same_as(other))
+    for other in keys {
+        if key.same_as(other) {
+            return true;
+        }
+    }
+    false
 }
 
 // The index of the last same key.

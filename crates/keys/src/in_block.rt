@@ -17,11 +17,12 @@ pub trait BlockSize: Copy {
     ghost some: { 0 < BYTES };
 }
 
-// A byte address, for its block.
+// A byte address, for its block. (Both fields are public, so that a key can be a constant: a constant's value calls no
+// function.)
 #[derive(Clone, Copy)]
 pub struct InBlock<B> {
     pub address: u64,
-    size: PhantomData<B>,
+    pub size: PhantomData<B>,
 }
 
 impl<B> InBlock<B> {

@@ -1,5 +1,5 @@
 // Line keys: a byte address, for its cache line of 64 bytes.
-ghost use Rattle.std.specs.Prelude.{refl};
+ghost use Rattle.std.specs.Prelude.{◌≡◌, refl};
 ghost use Rattle.std.proofs.lemmas.Bool.{ltb-true};
 
 use crate::in_block::{BlockSize, InBlock};
@@ -18,3 +18,15 @@ impl BlockSize for CacheLine {
 }
 
 pub type Line = InBlock<CacheLine>;
+
+impl Line {
+    // The block size, for where only a constant will do: a pattern, or the length of an array.
+    pub const SIZE: u64 = CacheLine::BYTES;
+}
+
+// (Nothing calls it: it has the constant proved.)
+fn line_size() -> u64
+    ensures { result ≡ 64 }
+{
+    Line::SIZE
+}

@@ -1,5 +1,5 @@
 // Page keys: a byte address, for its page of 4,096 bytes.
-ghost use Rattle.std.specs.Prelude.{refl};
+ghost use Rattle.std.specs.Prelude.{◌≡◌, refl};
 ghost use Rattle.std.proofs.lemmas.Bool.{ltb-true};
 
 use crate::in_block::{BlockSize, InBlock};
@@ -18,3 +18,15 @@ impl BlockSize for MemoryPage {
 }
 
 pub type Page = InBlock<MemoryPage>;
+
+impl Page {
+    // The block size, for where only a constant will do: a pattern, or the length of an array.
+    pub const SIZE: u64 = MemoryPage::BYTES;
+}
+
+// (Nothing calls it: it has the constant proved.)
+fn page_size() -> u64
+    ensures { result ≡ 4096 }
+{
+    Page::SIZE
+}

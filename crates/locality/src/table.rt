@@ -44,7 +44,7 @@ impl<'a> Table<'a> {
     // The sum of the entries above c.
     pub(crate) fn beyond(&self, c: u32) -> u64
         ensures value { result ≡ sum_above c (last_entry self.now.entries.now) (λ d. slice_index self.now.entries.now d) }
-        ensures bound { result ≤ 4097 * 4294967295 }
+        ensures bound { result ≤ 4096 * 4294967295 }
     {
         match self.entries.get(c as usize + 1..) {
             Some(above) => total(above),
@@ -55,9 +55,9 @@ impl<'a> Table<'a> {
 
 // The sum of counts.
 fn total(counts: &[u32]) -> u64
-    requires { length counts.now ≤ 4097 }
+    requires { length counts.now ≤ 4096 }
     ensures value { result ≡ sum counts.now }
-    ensures bound { result ≤ 4097 * 4294967295 }
+    ensures bound { result ≤ 4096 * 4294967295 }
 {
     counts.iter().map(|count| u64::from(*count)).sum()
 }

@@ -179,10 +179,10 @@ module _ {K : Type 0} {same : K → K → Bool} (laws : Lawful same) where
 
   -- a touch that was not refused, and a put back of the time that it answered
   pub peeked : {k : K} {t former room room' room'' : ℕ} {es mid after : List (Entry K)} {sound sound' sound'' : Type 0} {answer : Option (ℕ × ℕ)} →
-      (sound → Kept same room es) → Touching same k t room room' es mid sound sound' (Ok answer) → PuttingBack same former room' room'' mid after sound' sound'' → former ≡ former_time answer →
+      Touching same k t room room' es mid sound sound' (Ok answer) → PuttingBack same former room' room'' mid after sound' sound'' → former ≡ former_time answer →
       sound → Later t es → (Ok answer ≡ touch_answer same room k es) × (after ≡ es) × sound''
-  peeked {k = k} {t = t} kept rule back f s l =
-      let told = told_undone _ k t _ _ _ _ (kept s) l (rule.answers s l) (rule.list s l) f in
+  peeked {k = k} {t = t} rule back f s l =
+      let told = told_undone _ k t _ _ _ _ (rule.kept s) l (rule.answers s l) (rule.list s l) f in
       let stays = rule.stays s l in
       (rule.answers s l, back.list stays told.0 ∙ told.1, back.stays stays told.0)
 
@@ -192,6 +192,7 @@ module _ {K : Type 0} {same : K → K → Bool} (laws : Lawful same) where
       Touching same k t room room' es es' (Kept same room es) (Kept same room' es') r
   owed_touch k t room room' es es' r places told = record {
     places = places;
+    kept = λ s. s;
     answers = λ s l. (told s l).0;
     list = λ s l. (told s l).1;
     stays = λ s l. subst (λ (m : ℕ). Kept same m es') (sym places) (subst (Kept same room) (sym (told s l).1) (touch-kept room k t es s l));
@@ -202,6 +203,7 @@ module _ {K : Type 0} {same : K → K → Bool} (laws : Lawful same) where
       PuttingBack same t room room' es es' (Kept same room es) (Kept same room' es')
   owed_back t room room' es es' places told = record {
     places = places;
+    kept = λ s. s;
     list = told;
     stays = λ s r. subst (λ (m : ℕ). Kept same m es') (sym places) (subst (Kept same room) (sym (told s r)) (back-kept room t es s r));
   }

@@ -55,10 +55,11 @@ module _ {K : Type 0} (same : K → K → Bool) where
   touch_list places k t es = if has_room places k es then touched same k t es else es
 
 -- what every touch of k at time t owes, of a store's number of places, list and soundness before and after it: the places
--- stay, always; of a sound store, under the premise, answer and list are by the rules, and it stays sound. All else is
--- free. (That a sound store's list is as the rules keep it is a law of the trait.)
+-- stay, always; of a sound store the list is as the rules keep it; under the premise, too, its answer and its list are
+-- by the rules, and it stays sound. All else is free.
 pub record Touching {K : Type 0} (same : K → K → Bool) (k : K) (t room room' : ℕ) (es es' : List (Entry K)) (sound sound' : Type 0) (r : Result (Option (ℕ × ℕ)) Refusal) : Type 0 where
   pub places : room' ≡ room
+  pub kept : sound → Kept same room es
   pub answers : sound → Later t es → r ≡ touch_answer same room k es
   pub list : sound → Later t es → es' ≡ touch_list same room k t es
   pub stays : sound → Later t es → sound'
@@ -66,6 +67,7 @@ pub record Touching {K : Type 0} (same : K → K → Bool) (k : K) (t room room'
 -- what every put back of the time t owes, likewise
 pub record PuttingBack {K : Type 0} (same : K → K → Bool) (t room room' : ℕ) (es es' : List (Entry K)) (sound sound' : Type 0) : Type 0 where
   pub places : room' ≡ room
+  pub kept : sound → Kept same room es
   pub list : sound → Returns t es → es' ≡ put_back t es
   pub stays : sound → Returns t es → sound'
 

@@ -11,8 +11,22 @@ use keys::Key;
 use refusals::Refusal;
 
 // What a touch would answer: a put back of the former time after it gives the former list.
-#[tactic(auto, using(crate::proofs::Keeps::peeked, crate::proofs::Keeps::undone_told))]
 pub fn peek<S: RecencyStore>(
+    store: &mut S,
+    key: S::Key,
+    time: u16,
+) -> Result<Option<(u32, u16)>, Refusal>
+    ensures places { S.room store.new ≡ S.room store.old }
+    ensures refusal { is_err result ≡ true → store.new ≡ store.old }
+    ensures undone { S.sound store.old → Later time (S.entries store.old) → (result ≡ touch_answer S.Key.Key.same (S.room store.old) key (S.entries store.old)) × (S.entries store.new ≡ S.entries store.old) × S.sound store.new }
+    ensures law { TouchUndone S.Key.Key.same }
+{
+    touch_and_back(store, key, time)
+}
+
+// A touch, and at once its put back. (It has the contract of `peek`: with an attribute that names the lemma its proof is not
+// found, and by hand it would hide a wrong body.)
+fn touch_and_back<S: RecencyStore>(
     store: &mut S,
     key: S::Key,
     time: u16,

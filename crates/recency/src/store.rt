@@ -30,13 +30,15 @@ pub trait RecencyStore {
         ensures value { result ≡ room self.now }
         ensures most { result ≤ 4096 };
 
-    // The number of entries.
+    // The number of entries. A sound store's list is as the rules keep it. (A clause of the calls and no law of the trait: a
+    // law would ask it of values too that no store has, with numbers past their types.)
     fn held(&self) -> u32
-        ensures { sound self.now → result ≡ length (entries self.now) };
+        ensures count { sound self.now → result ≡ length (entries self.now) }
+        ensures kept { sound self.now → Kept Self.Key.Key.same (room self.now) (entries self.now) };
 
     // The j-th entry, counted from 1; none outside the list.
     fn entry(&self, j: u32) -> Option<Entry<Self::Key>>
-        ensures { sound self.now → result ≡ key_at (entries self.now) j };
+        ensures value { sound self.now → result ≡ key_at (entries self.now) j };
 
     // An access of the key at a time. A held key answers its depth and its former time, and its entry moves to the front
     // with the new time, its key as first stored. Another key, where a place is free, answers none, for "first", and its
@@ -58,7 +60,4 @@ pub trait RecencyStore {
         ensures places { room self.new ≡ room self.old }
         ensures list { entries self.new ≡ [] }
         ensures sound { sound self.new };
-
-    // A sound store's list is as the rules keep it.
-    ghost kept: { (s : Self) → sound s → Kept Self.Key.Key.same (room s) (entries s) };
 }

@@ -4,15 +4,15 @@ ghost use Rattle.std.specs.Prelude.{◌<◌};
 
 use keys::{BlockSize, InBlock, Key, Object};
 use locality::Entry;
-use std::fmt;
+use std::alloc::AllocError;
 
 // A key kind that can be made of a letter and shown.
 pub(crate) trait Lettered: Key {
     // The key of a letter. (No `From<u8>`: the kinds are another crate's.)
     fn lettered(letter: u8) -> Self;
 
-    // Writes the key, as `Display` would; the kinds are another crate's, which does not print them.
-    fn show<W: fmt::Write>(&self, f: &mut fmt::Formatter<W>) -> fmt::Result;
+    // Adds the key to a text. (No `Display`: the kinds are another crate's, which does not print them.)
+    fn show(&self, out: &mut String) -> Result<(), AllocError>;
 }
 
 // The number of a letter, from 1; 0 for another byte, of which the keys in unused slots are made.
@@ -41,8 +41,8 @@ impl<B: BlockSize> Lettered for InBlock<B> {
         InBlock::at(byte_of(letter, B::BYTES))
     }
 
-    fn show<W: fmt::Write>(&self, f: &mut fmt::Formatter<W>) -> fmt::Result {
-        write!(f, "{}", self.address)
+    fn show(&self, out: &mut String) -> Result<(), AllocError> {
+        write!(out, "{}", self.address)
     }
 }
 
@@ -54,25 +54,24 @@ impl Lettered for Object {
         }
     }
 
-    fn show<W: fmt::Write>(&self, f: &mut fmt::Formatter<W>) -> fmt::Result {
-        write!(f, "{}.{}", self.pool, self.object)
+    fn show(&self, out: &mut String) -> Result<(), AllocError> {
+        write!(out, "{}.{}", self.pool, self.object)
     }
 }
 
-// A list that prints, newest first, each entry as its key and its time.
-#[derive(Clone, Copy)]
-pub(crate) struct Listed<'a, K>(pub(crate) &'a [Entry<K>]);
-
-impl<K: Lettered> fmt::Display for Listed<'_, K> {
-    fn fmt<W: fmt::Write>(&self, f: &mut fmt::Formatter<W>) -> fmt::Result {
-        write!(f, "[")?;
-        let mut separator = "";
-        for entry in self.0 {
-            write!(f, "{separator}")?;
-            entry.key.show(f)?;
-            write!(f, "@{}", entry.time)?;
-            separator = " ";
-        }
-        write!(f, "]")
+// Adds a list, newest first, each entry as its key and its time. (To the text itself: through a formatter, a step whose
+// list is short takes twice the time and more.)
+pub(crate) fn add_list<K: Lettered>(
+    out: &mut String,
+    entries: &[Entry<K>],
+) -> Result<(), AllocError> {
+    out.push_str(" [")?;
+    let mut separator = "";
+    for entry in entries {
+        out.push_str(separator)?;
+        entry.key.show(out)?;
+        write!(out, "@{}", entry.time)?;
+        separator = " ";
     }
+    out.push_str("]")
 }

@@ -1,6 +1,7 @@
 // Scripts: a number of places, a colon, and steps.
+ghost use Rattle.std.specs.Prelude.{◌≤◌, IfSome};
+
 use std::alloc::{AllocError, Global};
-use std::fmt;
 
 // A step of a script.
 #[derive(Clone, Copy)]
@@ -40,12 +41,12 @@ impl TryFrom<u8> for Step {
     }
 }
 
-impl fmt::Display for Step {
-    fn fmt<W: fmt::Write>(&self, f: &mut fmt::Formatter<W>) -> fmt::Result {
-        match self {
-            Step::Touch(letter) => write!(f, "{}", char::from(*letter)),
-            Step::PutBack => write!(f, "-"),
-            Step::Empty => write!(f, "!"),
+impl From<Step> for char {
+    fn from(step: Step) -> char {
+        match step {
+            Step::Touch(letter) => char::from(letter),
+            Step::PutBack => '-',
+            Step::Empty => '!',
         }
     }
 }
@@ -55,6 +56,9 @@ impl fmt::Display for Step {
 pub(crate) struct Script {
     pub(crate) places: u8,
     pub(crate) steps: Vec<Step>,
+
+    // No more places than a script may ask for.
+    ghost most: { places ≤ 64 },
 }
 
 impl Script {
@@ -71,7 +75,9 @@ impl Script {
 }
 
 // The number of places, and the bytes that are to be steps.
-fn parts(line: &[u8]) -> Option<(u8, &[u8])> {
+fn parts(line: &[u8]) -> Option<(u8, &[u8])>
+    ensures { IfSome result (λ p. p.0 ≤ 64) }
+{
     if line.len() > 128 {
         return None;
     }
@@ -81,7 +87,9 @@ fn parts(line: &[u8]) -> Option<(u8, &[u8])> {
 
 // The number of places that digits write; none for other bytes, and past 64. (Not by `parse`: an empty text writes 0
 // here, and a sign is no digit.)
-fn places_of(digits: &[u8]) -> Option<u8> {
+fn places_of(digits: &[u8]) -> Option<u8>
+    ensures { IfSome result (λ p. p ≤ 64) }
+{
     digits
         .iter()
         .try_fold(0u8, |places, byte| {

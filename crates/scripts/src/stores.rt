@@ -1,5 +1,5 @@
 // Runs a script on both stores and on a list kept by the rules, over each key kind, and shows what each did.
-use crate::lettered::{Lettered, Listed};
+use crate::lettered::{Lettered, add_list};
 use crate::script::{Script, ScriptError, Step};
 use crate::subjects::{ByRules, Subject};
 use keys::{Line, Object, Page};
@@ -25,10 +25,10 @@ pub(crate) fn script_answer(alloc: Global, bytes: &[u8]) -> Result<String, Alloc
         }
         Err(ScriptError::OutOfMemory(error)) => return Err(error),
     };
-    writeln!(out)?;
-    add_kind::<Line>(&mut out, "lines  ", &script)?;
-    add_kind::<Page>(&mut out, "pages  ", &script)?;
-    add_kind::<Object>(&mut out, "objects", &script)?;
+    out.push_str("\n")?;
+    add_kind::<Line>(&mut out, "  lines   ", &script)?;
+    add_kind::<Page>(&mut out, "  pages   ", &script)?;
+    add_kind::<Object>(&mut out, "  objects ", &script)?;
     Ok(out)
 }
 
@@ -50,12 +50,33 @@ fn add_kind<K: Lettered>(out: &mut String, kind: &str, script: &Script) -> Resul
     } else {
         "DIFFER"
     };
-    writeln!(out, "  {kind} by rules {by_rules}")?;
-    writeln!(out, "  {kind} ordered  {ordered}")?;
-    writeln!(out, "  {kind} unordered{unordered}")?;
-    writeln!(out, "  {kind} {verdict}")?;
-    writeln!(out, "  {kind} left in order  {}", Listed(&slots))?;
-    writeln!(out, "  {kind} left unordered {}", Listed(&others))
+    add_row(out, kind, "by rules ", &by_rules)?;
+    add_row(out, kind, "ordered  ", &ordered)?;
+    add_row(out, kind, "unordered", &unordered)?;
+    add_row(out, kind, verdict, "")?;
+    add_slots(out, kind, "left in order ", &slots)?;
+    add_slots(out, kind, "left unordered", &others)
+}
+
+// A row of text.
+fn add_row(out: &mut String, kind: &str, name: &str, text: &str) -> Result<(), AllocError> {
+    out.push_str(kind)?;
+    out.push_str(name)?;
+    out.push_str(text)?;
+    out.push_str("\n")
+}
+
+// A row of slots.
+fn add_slots<K: Lettered>(
+    out: &mut String,
+    kind: &str,
+    name: &str,
+    slots: &[Entry<K>],
+) -> Result<(), AllocError> {
+    out.push_str(kind)?;
+    out.push_str(name)?;
+    add_list(out, slots)?;
+    out.push_str("\n")
 }
 
 // Slots that were in use before a store is made over them: no store may take what they hold for entries.
@@ -103,14 +124,15 @@ where
 {
     // One step, its answer, and the list after it.
     fn step(&mut self, step: Step) -> Result<(), AllocError> {
-        write!(self.out, " {step}")?;
+        self.out.push_str(" ")?;
+        self.out.push(char::from(step))?;
         match step {
             Step::Touch(letter) => self.touch(T::Key::lettered(letter))?,
             Step::PutBack => self.put_back()?,
             Step::Empty => self.empty(),
         }
         let list = self.subject.list(*self.out.allocator())?;
-        write!(self.out, " {}", Listed(&list))
+        add_list(&mut self.out, &list)
     }
 
     // Touches a key, one time after the touches that stand.
@@ -125,7 +147,7 @@ where
             }
             Ok(None) => {
                 self.formers.push(0)?;
-                write!(self.out, " first")
+                self.out.push_str(" first")
             }
             Err(refusal) => write!(self.out, " refused {}", refusal.number()),
         }
@@ -138,7 +160,7 @@ where
                 self.subject.put_back(former);
                 Ok(())
             }
-            None => write!(self.out, " nothing"),
+            None => self.out.push_str(" nothing"),
         }
     }
 

@@ -220,7 +220,7 @@ back_writes [] t S S' h r = absurd (omega arith)
 back_writes (e ∷ es) t S S' h r = r
 
 -- what a put back makes of the slots, where an entry is held
-pub back_made : {K : Type 0} (t : ℕ) (S : List (Entry K)) (i : ℕ) (d : Entry K) → i < places_in S → 1 ≤ (get_or (in_places S) i d).time → All (λ f. f.time ≤ (get_or (in_places S) i d).time) (in_places S) →
+back_made : {K : Type 0} (t : ℕ) (S : List (Entry K)) (i : ℕ) (d : Entry K) → i < places_in S → 1 ≤ (get_or (in_places S) i d).time → All (λ f. f.time ≤ (get_or (in_places S) i d).time) (in_places S) →
     PutBackSlots t S (set S i (at_time (get_or S i d).key t))
 back_made t S i d h n top =
     let L = in_places S in
@@ -231,6 +231,16 @@ back_made t S i d h n top =
     let most = each (λ f. f.time ≤ x.time) L top in
     back_writes (held_in L) t S (set S i (at_time (get_or S i d).key t)) some
     (record { index = i; old = x; place = at; such = (n, most); after = ap (λ y. set S i (at_time y.key t)) (sym (read_place S i d within)) })
+
+-- the same of slots that were written so
+pub back_by : {K : Type 0} (t : ℕ) (S S' : List (Entry K)) (i : ℕ) → i < places_in S → ((d : Entry K) → 1 ≤ (get_or (in_places S) i d).time) →
+    ((d : Entry K) → All (λ f. f.time ≤ (get_or (in_places S) i d).time) (in_places S)) →
+    ((x : Entry K) → slice_get S i ≡ Some x → S' ≡ set S i (at_time x.key t)) → PutBackSlots t S S'
+back_by t [] S' i h n top w = absurd (omega arith)
+back_by t (e ∷ es) S' i h n top w =
+    let S = e ∷ es in
+    let within : i < length S = omega arith in
+    subst (PutBackSlots t S) (sym (w (get_or S i e) (slice_get-get_or S i e within))) (back_made t S i e h (n e) (top e))
 
 -- and where none is
 pub none_made : {K : Type 0} (t : ℕ) (S : List (Entry K)) → All (λ e. e.time ≡ 0) (in_places S) → PutBackSlots t S S

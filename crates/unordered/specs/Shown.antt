@@ -11,8 +11,8 @@ use Rattle.recency.specs.Rules.{most_places, places_in, Kept, Touching, PuttingB
 use Rattle.recency.specs.ByTime.{by_time}
 use Rattle.unordered.specs.declared.store.Unordered.{Unordered}
 
--- the slots that are places: the first 4,096 (`unfoldable`: a tactic that sees through it takes them one by one)
-unfoldable pub in_places : {K : Type 0} → List (Entry K) → List (Entry K)
+-- the slots that are places: the first 4,096
+abbrev pub in_places : {K : Type 0} → List (Entry K) → List (Entry K)
 in_places slots = take most_places slots
 
 -- the entries held in slots: those with a time other than 0

@@ -48,8 +48,6 @@ impl<'a, K: Key> RecencyStore for Unordered<'a, K> {
 
     ghost sound = { unordered_sound K.Key.same };
 
-    ghost kept = { λ s h. h };
-
     // At most 4,096, so `as` keeps the number.
     fn places(&self) -> u32 {
         places_in(self.slots) as u32
@@ -58,6 +56,7 @@ impl<'a, K: Key> RecencyStore for Unordered<'a, K> {
     #[tactic(auto, using(crate::proofs::Slots::count_held, recency::proofs::ByTime::length_by_time))]
     fn held(&self) -> u32
         ensures count { unordered_sound K.Key.same self.now → result ≡ length (unordered_list self.now) }
+        ensures kept { unordered_sound K.Key.same self.now → unordered_sound K.Key.same self.now }
         ensures always { result ≡ length (unordered_list self.now) }
         ensures sorted { SortedByTime (held_in (in_places self.now.slots.now)) (unordered_list self.now) }
     {
@@ -72,7 +71,6 @@ impl<'a, K: Key> RecencyStore for Unordered<'a, K> {
         ranked(self.slots, j)
     }
 
-    #[tactic(auto, using(crate::proofs::Calls::touch_owes))]
     fn touch(&mut self, key: K, time: u16) -> Result<Option<(u32, u16)>, Refusal>
         ensures rule { UnorderedRule K.Key.same key time self.old self.new result }
         ensures refusal { is_err result ≡ true → self.new ≡ self.old }

@@ -5,12 +5,12 @@ ghost use Rattle.locality.specs.declared.entry.Entry.{Entry};
 ghost use Rattle.locality.specs.Numbers.{count_above};
 ghost use Rattle.locality.specs.Recency.{at_time, times_of};
 ghost use Rattle.recency.specs.Rules.{places_in};
-ghost use Rattle.unordered.specs.Shown.{in_places, list_in, KeptIn, freed, SlotsBackRule, TouchedSlots, PutBackSlots};
+ghost use Rattle.unordered.specs.Shown.{in_places, list_in, KeptIn, freed, SlotsRule, SlotsBackRule, TouchedSlots, PutBackSlots};
 
 use crate::scans::{later_than, latest, place_for};
 use keys::Key;
 use locality::Entry;
-use recency::places_in;
+use recency::{places_in, touched_entry};
 use refusals::Refusal;
 
 // Frees every place; the slots past the places are not written.
@@ -40,23 +40,25 @@ fn touch_place<K: Key>(slots: &mut [Entry<K>], at: usize, key: K, time: u16) -> 
     ensures first { (x : Entry K) → slice_get slots.old at ≡ Some x → x.time ≡ 0 → (result ≡ None) × (slots.new ≡ slice_set slots.old at (at_time key time)) }
     ensures again { (x : Entry K) → slice_get slots.old at ≡ Some x → 1 ≤ x.time → (result ≡ Some (count_above x.time (times_of (in_places slots.old)) + 1, x.time)) × (slots.new ≡ slice_set slots.old at (at_time x.key time)) }
 {
-    let former = slots[at].time;
-    if former == 0 {
-        slots[at] = Entry { key, time };
+    let stored = slots[at];
+    if stored.time == 0 {
+        slots[at] = touched_entry(None, key, time);
         return None;
     }
-    let depth = later_than(slots, former) + 1;
-    slots[at] = Entry { time, ..slots[at] };
-    Some((depth, former))
+    let depth = later_than(slots, stored.time) + 1;
+    slots[at] = touched_entry(Some(stored), key, time);
+    Some((depth, stored.time))
 }
 
-// A touch: of the place that holds the key, or else of a free one.
+// A touch: of the place that holds the key, or else of a free one. (It has the contract of the public method, over slots:
+// with an attribute that names the lemma the proof of that one is not found, and by hand it would hide a wrong body.)
 pub(crate) fn touch_slot<K: Key>(
     slots: &mut [Entry<K>],
     key: K,
     time: u16,
 ) -> Result<Option<(u32, u16)>, Refusal>
-    ensures { TouchedSlots K.same key time slots.old slots.new result }
+    ensures rule { SlotsRule K.same key time slots.old slots.new result }
+    ensures slots { TouchedSlots K.same key time slots.old slots.new result }
 {
     let Some(at) = place_for(slots, &key) else {
         return Err(Refusal::NoPlace);
@@ -64,17 +66,23 @@ pub(crate) fn touch_slot<K: Key>(
     Ok(touch_place(slots, at, key, time))
 }
 
-// A put back: a place with the latest time takes the time given, by which 0 frees it. (It has the contract of the public
-// method, over slots: with an attribute that names the lemma the proof of that one is not found, and by hand it would
-// hide a wrong body.)
+// A put back: a place with the latest time takes the time given, by which 0 frees it. (Its contract is such, too.)
 pub(crate) fn take_back<K: Key>(slots: &mut [Entry<K>], former: u16)
     ensures rule { SlotsBackRule K.same former slots.old slots.new }
     ensures slots { PutBackSlots former slots.old slots.new }
 {
     if let Some(at) = latest(slots) {
-        slots[at] = Entry {
-            time: former,
-            ..slots[at]
-        };
+        lower(slots, at, former);
     }
+}
+
+// The entry in a slot takes a time, by which 0 frees it; its key stays.
+fn lower<K: Copy>(slots: &mut [Entry<K>], at: usize, former: u16)
+    requires { at < length slots.old }
+    ensures { (x : Entry K) → slice_get slots.old at ≡ Some x → slots.new ≡ slice_set slots.old at (at_time x.key former) }
+{
+    slots[at] = Entry {
+        time: former,
+        ..slots[at]
+    };
 }

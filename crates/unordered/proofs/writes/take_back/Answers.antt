@@ -1,14 +1,17 @@
-use Rattle.std.proofs.Common.{refl}
-use Rattle.unordered.proofs.Calls.{back_made, back_owes, none_made}
+use Rattle.std.proofs.Common.{refl, arith}
+use Rattle.unordered.proofs.Calls.{back_by, back_owes, none_made}
 use Rattle.unordered.proofs.writes.take_back.Goals as goal
+
+pub lower-requires : goal.lower-requires
+lower-requires g c = let within = c.in-Some.ensures.within in omega arith
 
 pub returns-in-Some : goal.returns-in-Some
 returns-in-Some g c =
     let S = c.args.slots.now in
-    let d = c.index-slots-at.result in
+    let S' = c.lower.new.slots in
     let told = c.in-Some.ensures in
-    let slots = back_made c.args.former S c.in-Some.at d told.within (told.taken d) (told.latest d) in
-    record { rule = back_owes g.met.K.Key.lawful c.args.former S _ slots; slots = slots }
+    let slots = back_by c.args.former S S' c.in-Some.at told.within told.taken told.latest c.lower.ensures in
+    record { rule = back_owes g.met.K.Key.lawful c.args.former S S' slots; slots = slots }
 
 pub returns-in_default : goal.returns-in_default
 returns-in_default g c =

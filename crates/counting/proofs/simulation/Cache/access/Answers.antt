@@ -20,7 +20,7 @@ returns-in-Some g c =
     let x = get_or xs i k in
     let at : x ≡ get_or ks i x = sym (get_or-take n xs i k (omega (arith, found.1, len))) ∙ get_or_default ks i k x found.1 in
     let E = x ∷ (take i ks ++ drop (i + 1) ks) in
-    let now : E ≡ accessed same (length xs) k ks = after_hit same (length xs) k x ks i found.0 found.1 found.2 at in
+    let now : E ≡ accessed same (length xs) k ks = after_hit same (length xs) k x ks i found.0 found.2 at in
     let memory : c.bring_forward.new.places ≡ E ++ drop n xs
     = c.bring_forward.ensures k ∙ ap {B = List g.row.K.Denot} (λ l. x ∷ (take i l ++ drop (i + 1) l)) (sym (take-append-drop n xs)) ∙ moved x ks (drop n xs) i found.1 in
     let front = fronted E c.bring_forward.new.places xs n memory (omega (arith, len, length-append (take i ks) (drop (i + 1) ks), length-take i ks, length-drop (i + 1) ks, found.1)) in
