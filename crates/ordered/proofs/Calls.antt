@@ -63,7 +63,7 @@ module _ {K : Type 0} (s s' : Ordered K) (callers : s'.slots.ghost_name ≡ s.sl
       let n = length-take s.count s.slots.now in
       touch_leaves
       (at_time x.key t ∷ (take i es ++ drop (i + 1) es))
-      (slots ∙ brought (at_time x.key t) s.count s.slots.now i (omega arith) (omega arith))
+      (slots ∙ brought (at_time x.key t) s.count s.slots.now i (omega (arith, length-take s.count s.slots.now)))
       (grind (arith, common_steps)) k t (Some r)
       (grind (arith, nat_tests))
       (ap Some told ∙ sym (found_at same k es i x e.0 e.1 read))
@@ -103,5 +103,5 @@ module _ {K : Type 0} (s s' : Ordered K) (callers : s'.slots.ghost_name ≡ s.sl
         let low : q ≤ length r = omega (arith, at', prefix_len-le-length (λ (e : Entry K). not (leb e.time t)) r) in
         let m = length-take s.count s.slots.now in
         let y = at_time x.key t in
-        back_leaves (take q r ++ y ∷ drop q r) (slots ∙ sunk y s.count s.slots.now q (omega (arith, length-drop 1 (ordered_list s))) (omega arith)) (grind (arith, common_steps)) t
+        back_leaves (take q r ++ y ∷ drop q r) (slots ∙ sunk y s.count s.slots.now q (omega (arith, length-drop 1 (ordered_list s), length-take s.count s.slots.now))) (grind (arith, common_steps)) t
         (ap (λ z. take q r ++ at_time z.key t ∷ drop q r) read ∙ sym (back_some t (ordered_list s) x q other (omega arith) at'))

@@ -72,6 +72,7 @@ record IsLatest {K : Type 0} (es : List (Entry K)) (b t : ℕ) : Type 0 where
   most : AllByRecursion (λ e. e.time ≤ t) es
   reached : AllByRecursion (λ e. e.time ≡ t → ⊥) es → t ≡ b
 
+-- a fold finds it
 latest_of : {K : Type 0} (es : List (Entry K)) (b : ℕ) → IsLatest es b (fold (λ t e. max e.time t) b es)
 latest_of [] b = record { rises = omega arith; most = tt; reached = λ q. refl }
 latest_of (e ∷ es) b =
@@ -83,8 +84,10 @@ latest_of (e ∷ es) b =
       reached = λ q. let other : e.time ≡ t → ⊥ = q.0 in omega (arith, h.reached q.1);
     }
 
+-- so from 0 on no entry is later
 pub latest_most : {K : Type 0} (es : List (Entry K)) (t : ℕ) → t ≡ fold (λ t e. max e.time t) 0 es → All (λ e. e.time ≤ t) es
 latest_most es t e = subst (λ (n : ℕ). All (λ e. e.time ≤ n) es) (sym e) (All-from_recursion (λ e. e.time ≤ fold (λ t e. max e.time t) 0 es) es (latest_of es 0).most)
 
+-- and it is 0 where no entry has it
 pub latest_reached : {K : Type 0} (es : List (Entry K)) (t : ℕ) → t ≡ fold (λ t e. max e.time t) 0 es → All (λ e. e.time ≡ t → ⊥) es → t ≡ 0
 latest_reached es t e h = e ∙ (latest_of es 0).reached (subst (λ (n : ℕ). AllByRecursion (λ e. e.time ≡ n → ⊥) es) e (each (λ e. e.time ≡ t → ⊥) es h))

@@ -66,7 +66,8 @@ pub(crate) fn touch_slot<K: Key>(
     Ok(touch_place(slots, at, key, time))
 }
 
-// A put back: a place with the latest time takes the time given, by which 0 frees it. (Its contract is such, too.)
+// A put back: a place with the latest time takes the time given, by which 0 frees it. (Its contract, too, is the
+// public method's, over slots, and for the same reason.)
 pub(crate) fn take_back<K: Key>(slots: &mut [Entry<K>], former: u16)
     ensures rule { SlotsBackRule K.same former slots.old slots.new }
     ensures slots { PutBackSlots former slots.old slots.new }
