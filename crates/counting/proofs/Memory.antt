@@ -1,16 +1,9 @@
 -- A cache in the front of a slice. Assumes nothing.
-use Rattle.std.proofs.Common.{◌≡◌, ℕ, ◌+◌, ◌-◌, ◌<◌, ◌≤◌, min, List, [], ◌∷◌, ◌++◌, length, get_or, take, drop, sym, ap, ◌∙◌, ap₂, ⊎_elim, arith}
-use Rattle.std.proofs.lemmas.List.{length-take, length-take-le, take_all, take-take, take_at, drop_at, take_more}
+use Rattle.std.proofs.Common.{◌≡◌, ℕ, ◌-◌, ◌<◌, ◌≤◌, min, List, [], ◌∷◌, length, take, sym, ap, ◌∙◌, ⊎_elim, arith}
+use Rattle.std.proofs.lemmas.List.{length-take, take_all, take-take}
 use Rattle.std.proofs.lemmas.Bool.{cases_lt}
 
 module _ {X : Type 0} where
-  -- the last of the first i + 1 goes to their front
-  pub rotated : (xs : List X) (i : ℕ) (d : X) (n : ℕ) → i < length xs → n ≡ i → drop n (take (i + 1) xs) ++ take n (take (i + 1) xs) ≡ get_or xs i d ∷ take i xs
-  rotated xs i d n h e =
-      let len : length (take i xs) ≡ n = length-take-le i xs (omega arith) ∙ sym e in
-      let m = take_more xs i d h in
-      ap (λ p. drop n p ++ take n p) m ∙ ap₂ ◌++◌ (drop_at (take i xs) (get_or xs i d ∷ []) n len) (take_at (take i xs) (get_or xs i d ∷ []) n len)
-
   -- a key in front of the first n, cut to the length of the slice
   pub cut : (k : X) (xs : List X) (n m : ℕ) → 1 ≤ length xs → n ≤ length xs → m ≡ min n (length xs - 1) → take (length xs) (k ∷ take n xs) ≡ k ∷ take m xs
   cut k [] n m l h e = absurd (omega arith)

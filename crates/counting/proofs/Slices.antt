@@ -36,11 +36,6 @@ shifted : (f g : ℕ → ℕ) → ((s : ℕ) → 1 ≤ s → f (s + 1) ≡ g s) 
 shifted f g h a zero l = refl
 shifted f g h a (suc n) l = ap₂ ◌+◌ (h a l) (shifted f g h (a + 1) n (omega arith))
 
--- the greatest position that passes is further back than one that does not
-pub greatest-back : (f : ℕ → Bool) (p : ℕ) → 0 < p → f p ≡ false → greatest f (p - 1) ≡ greatest f p
-greatest-back f zero h y = absurd (omega arith)
-greatest-back f (suc p) h y = let e : suc p - 1 ≡ p = omega arith in rw (y, e)
-
 -- the greatest position that passes, by what is known of each
 pub greatest_none : (f : ℕ → Bool) (n : ℕ) → ((j : ℕ) → 1 ≤ j → j ≤ n → f j ≡ false) → greatest f n ≡ 0
 greatest_none f zero h = refl

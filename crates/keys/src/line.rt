@@ -1,5 +1,5 @@
 // Line keys: a byte address, for its cache line of 64 bytes.
-ghost use Rattle.std.specs.Prelude.{◌≡◌, refl};
+ghost use Rattle.std.specs.Prelude.{refl};
 ghost use Rattle.std.proofs.lemmas.Bool.{ltb-true};
 
 use crate::in_block::{BlockSize, InBlock};
@@ -9,7 +9,7 @@ use crate::in_block::{BlockSize, InBlock};
 pub struct CacheLine;
 
 impl BlockSize for CacheLine {
-    const BYTES: u64 = 64;
+    const BYTES: u64 = Line::SIZE;
 
     ghost BYTES = { 64 };
 
@@ -21,12 +21,5 @@ pub type Line = InBlock<CacheLine>;
 
 impl Line {
     // The block size, for where only a constant will do: a pattern, or the length of an array.
-    pub const SIZE: u64 = CacheLine::BYTES;
-}
-
-// (Nothing calls it: it has the constant proved.)
-fn line_size() -> u64
-    ensures { result ≡ 64 }
-{
-    Line::SIZE
+    pub const SIZE: u64 = 64;
 }

@@ -1,5 +1,5 @@
 // Page keys: a byte address, for its page of 4,096 bytes.
-ghost use Rattle.std.specs.Prelude.{◌≡◌, refl};
+ghost use Rattle.std.specs.Prelude.{refl};
 ghost use Rattle.std.proofs.lemmas.Bool.{ltb-true};
 
 use crate::in_block::{BlockSize, InBlock};
@@ -9,7 +9,7 @@ use crate::in_block::{BlockSize, InBlock};
 pub struct MemoryPage;
 
 impl BlockSize for MemoryPage {
-    const BYTES: u64 = 4096;
+    const BYTES: u64 = Page::SIZE;
 
     ghost BYTES = { 4096 };
 
@@ -21,12 +21,5 @@ pub type Page = InBlock<MemoryPage>;
 
 impl Page {
     // The block size, for where only a constant will do: a pattern, or the length of an array.
-    pub const SIZE: u64 = MemoryPage::BYTES;
-}
-
-// (Nothing calls it: it has the constant proved.)
-fn page_size() -> u64
-    ensures { result ≡ 4096 }
-{
-    Page::SIZE
+    pub const SIZE: u64 = 4096;
 }

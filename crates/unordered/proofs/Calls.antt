@@ -219,29 +219,22 @@ back_writes : {K : Type 0} (es : List (Entry K)) (t : ℕ) (S S' : List (Entry K
 back_writes [] t S S' h r = absurd (omega arith)
 back_writes (e ∷ es) t S S' h r = r
 
--- what a put back makes of the slots, where an entry is held
-back_made : {K : Type 0} (t : ℕ) (S : List (Entry K)) (i : ℕ) (d : Entry K) → i < places_in S → 1 ≤ (get_or (in_places S) i d).time → All (λ f. f.time ≤ (get_or (in_places S) i d).time) (in_places S) →
-    PutBackSlots t S (set S i (at_time (get_or S i d).key t))
-back_made t S i d h n top =
-    let L = in_places S in
+-- what a put back makes of the slots, by what is found in the places: where an entry is held
+pub back_made : {K : Type 0} (t : ℕ) (S S' L : List (Entry K)) (i : ℕ) → L ≡ in_places S → i < length L → ((d : Entry K) → 1 ≤ (get_or L i d).time) →
+    ((d : Entry K) → All (λ f. f.time ≤ (get_or L i d).time) L) → ((x : Entry K) → slice_get S i ≡ Some x → S' ≡ set S i (at_time x.key t)) → PutBackSlots t S S'
+back_made t S S' [] i e h n top w = absurd (omega arith)
+back_made t S S' (d ∷ ds) i e h n top w =
+    let L = d ∷ ds in
+    let M = in_places S in
     let x = get_or L i d in
-    let within : i < length L = omega (arith, length_places S) in
-    let at = slice_get-get_or L i d within in
-    let some : 0 < length (held_in L) = omega (arith, ap length (held_at L i x at n), length-append (before L i) (x ∷ behind L i)) in
-    let most = each (λ f. f.time ≤ x.time) L top in
-    back_writes (held_in L) t S (set S i (at_time (get_or S i d).key t)) some
-    (record { index = i; old = x; place = at; such = (n, most); after = ap (λ y. set S i (at_time y.key t)) (sym (read_place S i d within)) })
-
--- the same of slots that were written so
-pub back_by : {K : Type 0} (t : ℕ) (S S' : List (Entry K)) (i : ℕ) → i < places_in S → ((d : Entry K) → 1 ≤ (get_or (in_places S) i d).time) →
-    ((d : Entry K) → All (λ f. f.time ≤ (get_or (in_places S) i d).time) (in_places S)) →
-    ((x : Entry K) → slice_get S i ≡ Some x → S' ≡ set S i (at_time x.key t)) → PutBackSlots t S S'
-back_by t [] S' i h n top w = absurd (omega arith)
-back_by t (e ∷ es) S' i h n top w =
-    let S = e ∷ es in
-    let within : i < length S = omega arith in
-    subst (PutBackSlots t S) (sym (w (get_or S i e) (slice_get-get_or S i e within))) (back_made t S i e h (n e) (top e))
+    let inside : i < length M = omega (arith, ap length e) in
+    let at : slice_get M i ≡ Some x = ap (λ N. slice_get N i) (sym e) ∙ slice_get-get_or L i d h in
+    let read : slice_get S i ≡ Some x
+    = slice_get-get_or S i d (omega (arith, inside, length_places S)) ∙ ap Some (sym (read_place S i d inside) ∙ ap (λ N. get_or N i d) (sym e)) in
+    let some : 0 < length (held_in M) = omega (arith, ap length (held_at M i x at (n d)), length-append (before M i) (x ∷ behind M i)) in
+    let most = subst (AllByRecursion (λ f. f.time ≤ x.time)) e (each (λ f. f.time ≤ x.time) L (top d)) in
+    back_writes (held_in M) t S S' some (record { index = i; old = x; place = at; such = (n d, most); after = w x read })
 
 -- and where none is
-pub none_made : {K : Type 0} (t : ℕ) (S : List (Entry K)) → All (λ e. e.time ≡ 0) (in_places S) → PutBackSlots t S S
-none_made t S none = subst (λ es. PutBackIn es t S S) (sym (all_free (in_places S) (each (λ e. e.time ≡ 0) (in_places S) none))) refl
+pub none_made : {K : Type 0} (t : ℕ) (S L : List (Entry K)) → L ≡ in_places S → All (λ e. e.time ≡ 0) L → PutBackSlots t S S
+none_made t S L e none = subst (λ es. PutBackIn es t S S) (sym (ap held_in (sym e) ∙ all_free L (each (λ e. e.time ≡ 0) L none))) refl

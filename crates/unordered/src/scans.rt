@@ -10,8 +10,8 @@ use keys::Key;
 use locality::Entry;
 use recency::places_in;
 
-// The slots that are places.
-fn in_places<K>(slots: &[Entry<K>]) -> &[Entry<K>]
+// The slots that are places: what is read is read in them.
+pub(crate) fn in_places<K>(slots: &[Entry<K>]) -> &[Entry<K>]
     ensures slots { result.now ≡ in_places slots.now }
     ensures places { length result.now ≡ places_in slots.now }
 {
@@ -42,17 +42,9 @@ pub(crate) fn place_for<K: Key>(slots: &[Entry<K>], key: &K) -> Option<usize>
     holding(places, key).or_else(|| vacant(places))
 }
 
-// How many entries have later times.
-pub(crate) fn later_than<K>(slots: &[Entry<K>], time: u16) -> u32
-    ensures count { result ≡ count_above time (times_of (in_places slots.now)) }
-    ensures most { result ≤ places_in slots.now }
-{
-    later_in(in_places(slots), time)
-}
-
-// The same, of places alone: no more of them than a store has, so that the sum fits.
+// How many entries have later times. (At most as many as a store has places, so that the sum fits.)
 #[tactic(auto, using(crate::proofs::Places::later_counted))]
-fn later_in<K>(places: &[Entry<K>], time: u16) -> u32
+pub(crate) fn later_than<K>(places: &[Entry<K>], time: u16) -> u32
     requires { length places.now ≤ 4096 }
     ensures count { result ≡ count_above time (times_of places.now) }
     ensures most { result ≤ length places.now }
@@ -60,18 +52,8 @@ fn later_in<K>(places: &[Entry<K>], time: u16) -> u32
     places.iter().map(|e| u32::from(e.time > time)).sum()
 }
 
-// A place with the latest time, if one is taken.
-pub(crate) fn latest<K>(slots: &[Entry<K>]) -> Option<usize>
-    ensures within { IfSome result (λ i. i < places_in slots.now) }
-    ensures taken { IfSome result (λ i. (d : Entry K) → 1 ≤ (slice_index_or (in_places slots.now) i d).time) }
-    ensures latest { IfSome result (λ i. (d : Entry K) → All (λ e. e.time ≤ (slice_index_or (in_places slots.now) i d).time) (in_places slots.now)) }
-    ensures none { result ≡ None → All (λ e. e.time ≡ 0) (in_places slots.now) }
-{
-    latest_in(in_places(slots))
-}
-
-// The same, of places alone: the first that has the latest time.
-fn latest_in<K>(places: &[Entry<K>]) -> Option<usize>
+// The first place with the latest time, if one is taken.
+pub(crate) fn latest<K>(places: &[Entry<K>]) -> Option<usize>
     ensures within { IfSome result (λ i. i < length places.now) }
     ensures taken { IfSome result (λ i. (d : Entry K) → 1 ≤ (slice_index_or places.now i d).time) }
     ensures latest { IfSome result (λ i. (d : Entry K) → All (λ e. e.time ≤ (slice_index_or places.now i d).time) places.now) }
@@ -93,19 +75,12 @@ fn latest_time<K>(places: &[Entry<K>]) -> u16
 }
 
 // A held entry with j − 1 later times; none where there is none.
-pub(crate) fn ranked<K: Copy>(slots: &[Entry<K>], j: u32) -> Option<Entry<K>>
-    ensures { RankedIn j (in_places slots.now) result }
-{
-    ranked_in(in_places(slots), j)
-}
-
-// The same, of places alone.
-fn ranked_in<K: Copy>(places: &[Entry<K>], j: u32) -> Option<Entry<K>>
+pub(crate) fn ranked<K: Copy>(places: &[Entry<K>], j: u32) -> Option<Entry<K>>
     requires { length places.now ≤ 4096 }
     ensures { RankedIn j places.now result }
 {
     places
         .iter()
-        .find(|e| e.time > 0 && later_in(places, e.time) + 1 == j)
+        .find(|e| e.time > 0 && later_than(places, e.time) + 1 == j)
         .copied()
 }

@@ -5,7 +5,7 @@ ghost use Rattle.recency.specs.Rules.{places_in};
 ghost use Rattle.recency.specs.ByTime.{SortedByTime};
 ghost use Rattle.unordered.specs.Shown.{in_places, held_in, unordered_places, unordered_list, unordered_sound, UnorderedRule, UnorderedBackRule, freed, TouchedSlots, RankedIn, PutBackSlots};
 
-use crate::scans::{later_than, ranked};
+use crate::scans::{in_places, later_than, ranked};
 use crate::writes::{free_all, take_back, touch_slot};
 use keys::Key;
 use locality::Entry;
@@ -60,7 +60,7 @@ impl<'a, K: Key> RecencyStore for Unordered<'a, K> {
         ensures always { result ≡ length (unordered_list self.now) }
         ensures sorted { SortedByTime (held_in (in_places self.now.slots.now)) (unordered_list self.now) }
     {
-        later_than(self.slots, 0)
+        later_than(in_places(self.slots), 0)
     }
 
     #[tactic(auto, using(crate::proofs::Slots::ranked_is))]
@@ -68,7 +68,7 @@ impl<'a, K: Key> RecencyStore for Unordered<'a, K> {
         ensures value { unordered_sound K.Key.same self.now → result ≡ key_at (unordered_list self.now) j }
         ensures slots { RankedIn j (in_places self.now.slots.now) result }
     {
-        ranked(self.slots, j)
+        ranked(in_places(self.slots), j)
     }
 
     fn touch(&mut self, key: K, time: u16) -> Result<Option<(u32, u16)>, Refusal>

@@ -7,7 +7,7 @@ ghost use Rattle.locality.specs.Recency.{at_time, times_of};
 ghost use Rattle.recency.specs.Rules.{places_in};
 ghost use Rattle.unordered.specs.Shown.{in_places, list_in, KeptIn, freed, SlotsRule, SlotsBackRule, TouchedSlots, PutBackSlots};
 
-use crate::scans::{later_than, latest, place_for};
+use crate::scans::{in_places, later_than, latest, place_for};
 use keys::Key;
 use locality::Entry;
 use recency::{places_in, touched_entry};
@@ -45,7 +45,7 @@ fn touch_place<K: Key>(slots: &mut [Entry<K>], at: usize, key: K, time: u16) -> 
         slots[at] = touched_entry(None, key, time);
         return None;
     }
-    let depth = later_than(slots, stored.time) + 1;
+    let depth = later_than(in_places(slots), stored.time) + 1;
     slots[at] = touched_entry(Some(stored), key, time);
     Some((depth, stored.time))
 }
@@ -72,7 +72,7 @@ pub(crate) fn take_back<K: Key>(slots: &mut [Entry<K>], former: u16)
     ensures rule { SlotsBackRule K.same former slots.old slots.new }
     ensures slots { PutBackSlots former slots.old slots.new }
 {
-    if let Some(at) = latest(slots) {
+    if let Some(at) = latest(in_places(slots)) {
         lower(slots, at, former);
     }
 }

@@ -2,7 +2,7 @@ use Rattle.std.proofs.Common.{cond, ltb, rules, tests, arith}
 use Rattle.std.proofs.lemmas.Iterator.{YieldsList-from_slice, YieldsList-from_map}
 use Rattle.std.proofs.lemmas.Iterator.Consumers.{sum_by_from_yields_List}
 use Rattle.std.proofs.lemmas.List.Sums.{count_by-le-length}
-use Rattle.unordered.proofs.scans.later_in.Goals as goal
+use Rattle.unordered.proofs.scans.later_than.Goals as goal
 
 pub returns-clause-most : goal.returns-clause-most
 returns-clause-most g c =
